@@ -1,0 +1,2 @@
+pub mod Relieved
+pub mod Graced

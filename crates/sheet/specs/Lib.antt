@@ -1,0 +1,4 @@
+pub mod Rules
+pub mod Sheets
+pub mod Bytes
+pub mod Laid

@@ -1,0 +1,4 @@
+pub mod Tolls
+pub mod Prices
+pub mod Minutes
+pub mod Ranks
