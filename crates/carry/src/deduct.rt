@@ -1,6 +1,7 @@
 //! Deduct: the margin swallows as many minutes as it has.
 ghost use Rattle.carry.specs.Handed.{deducted};
 use crate::rule::Carry;
+use crate::rule::LONGEST;
 use crate::rule::Measured;
 
 /// Hands on the lateness less the margin.
@@ -17,6 +18,6 @@ pub impl Carry for Deduct as DeductCarry {
 
 pub impl Measured for Deduct as DeductMeasured {
     fn remains(&self, margin: u16, allowance: u16) -> u16 {
-        (margin + allowance).min(1440)
+        (margin + allowance).min(LONGEST)
     }
 }

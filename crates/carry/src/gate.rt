@@ -17,6 +17,10 @@ pub impl Carry for Gate as GateCarry {
 
 pub impl Measured for Gate as GateMeasured {
     fn remains(&self, margin: u16, allowance: u16) -> u16 {
-        if allowance < margin { margin } else { allowance }
+        if allowance < margin {
+            margin
+        } else {
+            allowance
+        }
     }
 }

@@ -3,6 +3,9 @@ ghost use mathlib.Core.Path.{_≡_};
 ghost use Prim.Native.Nat.{ℕ, _≤_};
 ghost use Rattle.carry.specs.Laws.{Lawful-rule, Remains};
 
+/// The longest margin, lateness or allowance that the calls take, in minutes: a day.
+pub const LONGEST: u16 = 1440;
+
 /// A rule that says how much lateness an activity hands on, by its margin.
 pub trait Carry {
     /// What the rule means: from a margin and a lateness to the lateness handed on.

@@ -3,6 +3,7 @@ ghost use mathlib.Core.Path.{_≡_};
 ghost use Prim.Native.Nat.{_-_};
 ghost use Rattle.carry.specs.Handed.{shared};
 use crate::rule::Carry;
+use crate::rule::LONGEST;
 use crate::rule::Measured;
 
 /// Hands on what is left of the lateness when the margin's hundredths are taken off, rounded down.
@@ -28,10 +29,10 @@ pub impl Measured for Share as ShareMeasured {
     fn remains(&self, margin: u16, allowance: u16) -> u16 {
         let percent = kept_percent(margin);
         if percent == 0 {
-            return 1440;
+            return LONGEST;
         }
         // less than one minute above the allowance, in hundredths
         let hundredths = allowance as u32 * 100 + 99;
-        (hundredths / percent).min(1440) as u16
+        (hundredths / percent).min(LONGEST as u32) as u16
     }
 }

@@ -4,5 +4,4 @@ ghost use Rattle.carry.specs.Worked.{Worked-rules};
 /// Answers nothing; its contract is the worked cases.
 pub fn worked_rules()
     ensures { λ _. ⌜ Worked-rules ⌝ }
-{
-}
+{}

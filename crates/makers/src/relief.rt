@@ -1,6 +1,7 @@
 //! Relief: a carry rule with a parameter. A relief truck leaves in time, so that little is ever handed on.
 ghost use Rattle.makers.specs.Relieved.{relieved};
 use carry::rule::Carry;
+use carry::rule::LONGEST;
 use carry::rule::Measured;
 
 /// Hands on the lateness less the margin, and never more than `most` minutes.
@@ -19,6 +20,10 @@ pub impl Carry for Relief as ReliefCarry {
 
 pub impl Measured for Relief as ReliefMeasured {
     fn remains(&self, margin: u16, allowance: u16) -> u16 {
-        if allowance < self.most { (margin + allowance).min(1440) } else { 1440 }
+        if allowance < self.most {
+            (margin + allowance).min(LONGEST)
+        } else {
+            LONGEST
+        }
     }
 }

@@ -33,7 +33,15 @@ fn main(rt: LibcRuntime) -> io::Result<()> {
     let relief = Relief { most: 90 };
     println!(rt, "relief carry: {}", try_carry(&relief, Way::Relief))?;
     println!(rt, "relief remains: {}", try_remains(&relief, Way::Relief))?;
-    println!(rt, "deduct taken for gate, carry: {}", try_carry(&Deduct, Way::Gate))?;
-    println!(rt, "deduct taken for gate, remains: {}", try_remains(&Deduct, Way::Gate))?;
+    println!(
+        rt,
+        "deduct taken for gate, carry: {}",
+        try_carry(&Deduct, Way::Gate)
+    )?;
+    println!(
+        rt,
+        "deduct taken for gate, remains: {}",
+        try_remains(&Deduct, Way::Gate)
+    )?;
     print_sums(&rt)
 }

@@ -29,7 +29,14 @@ pub struct Reckoner {
 impl Reckoner {
     pub fn new(way: Way, margin: u16) -> Self {
         let rate = if margin < 100 { 100 - margin } else { 0 };
-        Reckoner { way, left: margin, rate, part: 0, lateness: 0, handed: 0 }
+        Reckoner {
+            way,
+            left: margin,
+            rate,
+            part: 0,
+            lateness: 0,
+            handed: 0,
+        }
     }
 
     /// One minute more.

@@ -47,7 +47,10 @@ fn remains_row<R: Measured>(rule: &R, margin: u16, greatest: &[u16; 1441], tally
     requires { ⌜ margin ≤ 1440 ⌝ }
 {
     for allowance in 0..1441u16 {
-        tally.count(rule.remains(margin, allowance), greatest[usize::from(allowance)]);
+        tally.count(
+            rule.remains(margin, allowance),
+            greatest[usize::from(allowance)],
+        );
     }
 }
 

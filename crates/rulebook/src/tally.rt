@@ -11,7 +11,11 @@ pub struct Tally {
 
 impl Tally {
     pub fn new() -> Self {
-        Tally { answers: 0, wrong: 0, checksum: 0 }
+        Tally {
+            answers: 0,
+            wrong: 0,
+            checksum: 0,
+        }
     }
 
     pub fn count(&mut self, answer: u16, expected: u16) {
@@ -19,7 +23,9 @@ impl Tally {
         if answer != expected {
             self.wrong = self.wrong.wrapping_add(1);
         }
-        self.checksum = self.checksum.wrapping_mul(31).wrapping_add(u64::from(answer));
+        self.checksum = self.checksum
+            .wrapping_mul(31)
+            .wrapping_add(u64::from(answer));
     }
 }
 

@@ -1,7 +1,7 @@
 //! Reading a sheet: bytes become numbers, records, tables, or the first fault with its place.
 pub mod fault;
-pub mod number;
-pub mod record;
-pub mod section;
-pub mod lot;
+mod lot;
+mod number;
 pub mod read;
+pub mod record;
+mod section;

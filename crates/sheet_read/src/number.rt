@@ -7,7 +7,7 @@ use crate::fault::Spot;
 
 /// The number that the first two bytes give, high byte first, and the bytes after it.
 /// `at` is where the count, record or step begins that the number belongs to.
-pub fn take_number(bytes: &[u8], at: Spot) -> Result<(u16, &[u8]), ReaderFault>
+pub(crate) fn take_number(bytes: &[u8], at: Spot) -> Result<(u16, &[u8]), ReaderFault>
     ensures { λ r. ⌜ mapped with-rest (λ e. e) r ≡ number-of at (now (bytes .entry)) ⌝ }
 {
     match bytes {
@@ -17,7 +17,7 @@ pub fn take_number(bytes: &[u8], at: Spot) -> Result<(u16, &[u8]), ReaderFault>
 }
 
 /// The four numbers of an event or an activity.
-pub fn take_four(bytes: &[u8], at: Spot) -> Result<((u16, u16, u16, u16), &[u8]), ReaderFault>
+pub(crate) fn take_four(bytes: &[u8], at: Spot) -> Result<((u16, u16, u16, u16), &[u8]), ReaderFault>
     ensures { λ r. ⌜ mapped with-rest (λ e. e) r ≡ four-of at (now (bytes .entry)) ⌝ }
 {
     let (a, rest) = take_number(bytes, at)?;

@@ -16,7 +16,7 @@ use sheet::records::Kind;
 use sheet::records::Side;
 
 /// Reads the period.
-pub fn read_period(bytes: &[u8], at: Spot) -> Result<(u16, &[u8]), RecordFault>
+pub(crate) fn read_period(bytes: &[u8], at: Spot) -> Result<(u16, &[u8]), RecordFault>
     ensures { λ r. ⌜ mapped with-rest (λ e. e) r ≡ period-of at (now (bytes .entry)) ⌝ }
 {
     let (period, rest) = take_number(bytes, at)?;
@@ -49,7 +49,7 @@ fn event_from(period: u16, numbers: (u16, u16, u16, u16)) -> Option<Event>
 }
 
 /// Reads one event of a sheet with this period.
-pub fn read_event(bytes: &[u8], at: Spot, period: u16) -> Result<(Event, &[u8]), RecordFault>
+pub(crate) fn read_event(bytes: &[u8], at: Spot, period: u16) -> Result<(Event, &[u8]), RecordFault>
     ensures { λ r. ⌜ mapped with-rest (λ e. e) r ≡ event-of period at (now (bytes .entry)) ⌝ }
 {
     let (numbers, rest) = take_four(bytes, at)?;
@@ -105,7 +105,7 @@ fn activity_from(events: &[Event], numbers: (u16, u16, u16, u16)) -> Option<Acti
 }
 
 /// Reads one activity of a sheet with these events.
-pub fn read_activity<'b>(bytes: &'b [u8], at: Spot, events: &[Event]) -> Result<(Activity, &'b [u8]), RecordFault>
+pub(crate) fn read_activity<'b>(bytes: &'b [u8], at: Spot, events: &[Event]) -> Result<(Activity, &'b [u8]), RecordFault>
     ensures { λ r. ⌜ mapped with-rest (λ e. e) r ≡ activity-of (now (events .entry)) at (now (bytes .entry)) ⌝ }
 {
     let (numbers, rest) = take_four(bytes, at)?;
@@ -144,7 +144,7 @@ fn head_from(class: u16, parcels: u16, count: u16) -> Option<LotHead>
 }
 
 /// Reads a lot's three numbers.
-pub fn read_head(bytes: &[u8], at: Spot) -> Result<(LotHead, &[u8]), RecordFault>
+pub(crate) fn read_head(bytes: &[u8], at: Spot) -> Result<(LotHead, &[u8]), RecordFault>
     ensures { λ r. ⌜ mapped with-rest (λ e. e) r ≡ head-of at (now (bytes .entry)) ⌝ }
 {
     let (class, rest) = take_number(bytes, at)?;
@@ -169,7 +169,7 @@ fn step_keeps(activities: &[Activity], from: Option<u16>, step: u16) -> bool
 }
 
 /// Reads one step of a lot that has come to the event `from`, if it has begun.
-pub fn read_step<'b>(bytes: &'b [u8], at: Spot, activities: &[Activity], from: Option<u16>) -> Result<(u16, &'b [u8]), RecordFault>
+pub(crate) fn read_step<'b>(bytes: &'b [u8], at: Spot, activities: &[Activity], from: Option<u16>) -> Result<(u16, &'b [u8]), RecordFault>
     ensures { λ r. ⌜ mapped with-rest (λ e. e) r ≡ step-of (now (activities .entry)) from at (now (bytes .entry)) ⌝ }
 {
     let (step, rest) = take_number(bytes, at)?;

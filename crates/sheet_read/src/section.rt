@@ -26,7 +26,7 @@ use sheet::records::Activity;
 use sheet::records::Event;
 
 /// Where the bytes that are left begin in a sheet of `total` bytes.
-pub fn spot(section: Section, record: u16, total: usize, rest: &[u8]) -> Spot
+pub(crate) fn spot(section: Section, record: u16, total: usize, rest: &[u8]) -> Spot
     ensures { λ r. ⌜ r ≡ spot-at section «record» total (now (rest .entry)) ⌝ }
 {
     Spot { section, record, place: total.saturating_sub(rest.len()) }
@@ -56,7 +56,7 @@ impl Section {
 }
 
 /// Reads a section's count, for a table of `cells` cells.
-pub fn read_count(bytes: &[u8], section: Section, total: usize, cells: usize) -> Result<(u16, &[u8]), SheetFault>
+pub(crate) fn read_count(bytes: &[u8], section: Section, total: usize, cells: usize) -> Result<(u16, &[u8]), SheetFault>
     ensures { λ r. ⌜ mapped with-rest (λ e. e) r ≡ count-of section total cells (now (bytes .entry)) ⌝ }
 {
     let at = spot(section, 0, total, bytes);
@@ -71,7 +71,7 @@ pub fn read_count(bytes: &[u8], section: Section, total: usize, cells: usize) ->
 }
 
 /// What reads the records of one section.
-pub trait RecordReader {
+pub(crate) trait RecordReader {
     type Item: Copy;
 
     /// What is read at the front of some bytes, for a record that begins at a spot.
@@ -83,11 +83,11 @@ pub trait RecordReader {
 
 /// Reads the events of a sheet with this period.
 #[derive(Clone, Copy)]
-pub struct EventReader {
+pub(crate) struct EventReader {
     pub period: u16,
 }
 
-pub impl RecordReader for EventReader as EventRecords {
+pub(crate) impl RecordReader for EventReader as EventRecords {
     type Item = Event;
 
     ghost reads = { λ s. event-of (s .period) };
@@ -99,11 +99,11 @@ pub impl RecordReader for EventReader as EventRecords {
 
 /// Reads the activities of a sheet with these events.
 #[derive(Clone, Copy)]
-pub struct ActivityReader<'e> {
+pub(crate) struct ActivityReader<'e> {
     pub events: &'e [Event],
 }
 
-pub impl<'e> RecordReader for ActivityReader<'e> as ActivityRecords {
+pub(crate) impl<'e> RecordReader for ActivityReader<'e> as ActivityRecords {
     type Item = Activity;
 
     ghost reads = { λ s. activity-of (behind (s .events)) };
@@ -114,7 +114,7 @@ pub impl<'e> RecordReader for ActivityReader<'e> as ActivityRecords {
 }
 
 /// Reads `count` records into the front of `table`.
-pub fn read_records<'b, R: RecordReader>(reader: &R, section: Section, total: usize, count: u16, bytes: &'b [u8], table: &mut [R::Item]) -> Result<&'b [u8], RecordFault>
+pub(crate) fn read_records<'b, R: RecordReader>(reader: &R, section: Section, total: usize, count: u16, bytes: &'b [u8], table: &mut [R::Item]) -> Result<&'b [u8], RecordFault>
     requires { ⌜ count ≤ length (now table) ⌝ }
     ensures answer { λ r. ⌜ mapped now (λ e. e) r ≡ records-of (R·RecordReader .reads (now (reader .entry))) section total 0 count (now (bytes .entry)) .1 ⌝ }
     ensures cells { λ _. ⌜ now (table .exit) ≡ laid 0 (records-of (R·RecordReader .reads (now (reader .entry))) section total 0 count (now (bytes .entry)) .0) (now (table .entry)) ⌝ }
@@ -130,7 +130,7 @@ pub fn read_records<'b, R: RecordReader>(reader: &R, section: Section, total: us
 }
 
 /// Reads a section whose records fill the front of `table`, and says how many there are.
-pub fn read_section<'b, R: RecordReader>(reader: &R, section: Section, total: usize, bytes: &'b [u8], table: &mut [R::Item]) -> Result<(u16, &'b [u8]), SheetFault>
+pub(crate) fn read_section<'b, R: RecordReader>(reader: &R, section: Section, total: usize, bytes: &'b [u8], table: &mut [R::Item]) -> Result<(u16, &'b [u8]), SheetFault>
     ensures answer { λ r. ⌜ mapped with-rest (λ e. e) r ≡ section-of (R·RecordReader .reads (now (reader .entry))) section total (length (now (table .entry))) (now (bytes .entry)) .1 ⌝ }
     ensures cells { λ _. ⌜ now (table .exit) ≡ laid 0 (section-of (R·RecordReader .reads (now (reader .entry))) section total (length (now (table .entry))) (now (bytes .entry)) .0) (now (table .entry)) ⌝ }
 {
@@ -140,7 +140,7 @@ pub fn read_section<'b, R: RecordReader>(reader: &R, section: Section, total: us
 }
 
 /// Reads the section of the events of a sheet with this period.
-pub fn read_events<'b>(bytes: &'b [u8], total: usize, period: u16, table: &mut [Event]) -> Result<(u16, &'b [u8]), SheetFault>
+pub(crate) fn read_events<'b>(bytes: &'b [u8], total: usize, period: u16, table: &mut [Event]) -> Result<(u16, &'b [u8]), SheetFault>
     ensures answer { λ r. ⌜ mapped with-rest (λ e. e) r ≡ section-of (event-of period) Events total (length (now (table .entry))) (now (bytes .entry)) .1 ⌝ }
     ensures cells { λ _. ⌜ now (table .exit) ≡ laid 0 (section-of (event-of period) Events total (length (now (table .entry))) (now (bytes .entry)) .0) (now (table .entry)) ⌝ }
 {
@@ -148,7 +148,7 @@ pub fn read_events<'b>(bytes: &'b [u8], total: usize, period: u16, table: &mut [
 }
 
 /// Reads the section of the activities of a sheet with these events.
-pub fn read_activities<'b>(bytes: &'b [u8], total: usize, events: &[Event], table: &mut [Activity]) -> Result<(u16, &'b [u8]), SheetFault>
+pub(crate) fn read_activities<'b>(bytes: &'b [u8], total: usize, events: &[Event], table: &mut [Activity]) -> Result<(u16, &'b [u8]), SheetFault>
     ensures answer { λ r. ⌜ mapped with-rest (λ e. e) r ≡ section-of (activity-of (now (events .entry))) Activities total (length (now (table .entry))) (now (bytes .entry)) .1 ⌝ }
     ensures cells { λ _. ⌜ now (table .exit) ≡ laid 0 (section-of (activity-of (now (events .entry))) Activities total (length (now (table .entry))) (now (bytes .entry)) .0) (now (table .entry)) ⌝ }
 {

@@ -15,7 +15,7 @@ use Rattle.sums.specs.Totals.{lot-weight, lots-weight, paid-at, sheet-bulk}
 use Rattle.sums.proofs.Adding.{numbers-bound}
 
 few-parcels : (activities : List Activity) (first : ℕ) (lots : List Lot) (steps : List ℕ) → lots-keep activities first lots steps ≡ true
-  → (i : ℕ) → i < length lots → lot-at lots i .parcels ≤ 65535
+    → (i : ℕ) → i < length lots → lot-at lots i .parcels ≤ 65535
 few-parcels activities first [] steps h i k = absurd (omega arith)
 few-parcels activities first (l ∷ ls) steps h zero k = let keeps = first-of activities first l ls steps h .lot in grind (arith, tells)
 few-parcels activities first (l ∷ ls) steps h (suc i) k =
@@ -30,5 +30,5 @@ short-period t h = let keeps = kept-of t h .period in grind (arith, tells)
 pub light-sheet : (t : Tables) → well-formed t ≡ true → lots-weight (t .lots) ≤ sheet-bulk
 light-sheet t h =
     let each : (i : ℕ) → i < length (t .lots) → paid-at lot-weight (t .lots) i ≤ 1440 * 65535 =
-          λ i k. omega (arith, few-parcels (t .activities) 0 (t .lots) (t .steps) (kept-of t h .lots) i k) in
+    λ i k. omega (arith, few-parcels (t .activities) 0 (t .lots) (t .steps) (kept-of t h .lots) i k) in
     omega (arith, numbers-bound (paid-at lot-weight (t .lots)) (length (t .lots)) (1440 * 65535) each, mul-le-mul-right (1440 * 65535) (few-lots t h))

@@ -2,8 +2,7 @@
 ghost use mathlib.Core.Path.{_≡_};
 ghost use Prim.Native.Nat.{_≤_};
 ghost use Rattle.sheet.specs.Sheets.{tables-of};
-ghost use Rattle.sums.specs.Totals.{lots-total};
-ghost use Rattle.sums.specs.Alike.{late-charge, miss-charge};
+ghost use Rattle.sums.specs.Alike.{late-charge, late-total, miss-charge, miss-total};
 use crate::charge::Charge;
 use crate::sheet_sum::sum_sheet;
 use sheet::records::Lot;
@@ -53,14 +52,15 @@ pub fn lost_minutes(sheet: &Sheet) -> u16
 /// The toll of a sheet if every lot ended so many minutes late.
 pub fn all_late<T: Tariff>(tariff: &T, sheet: &Sheet, minutes: u16) -> T::Toll
     requires { ⌜ minutes ≤ 1440 ⌝ }
-    ensures { λ r. ⌜ r ≡ lots-total (prices (now (tariff .entry)) .tolls) (late-charge (prices (now (tariff .entry))) minutes) (tables-of (now (sheet .entry)) .lots) ⌝ }
+    ensures { λ r. ⌜ r ≡ late-total (prices (now (tariff .entry))) minutes (tables-of (now (sheet .entry)) .lots) ⌝ }
 {
     sum_sheet(tariff, &LateBy { minutes }, sheet)
 }
 
 /// The toll of a sheet if every lot missed a connection.
 pub fn all_missed<T: Tariff>(tariff: &T, sheet: &Sheet) -> T::Toll
-    ensures { λ r. ⌜ r ≡ lots-total (prices (now (tariff .entry)) .tolls) (miss-charge (prices (now (tariff .entry))) (now (sheet .entry) .period)) (tables-of (now (sheet .entry)) .lots) ⌝ }
+    ensures { λ r. ⌜ r ≡ miss-total (prices (now (tariff .entry))) (now (sheet .entry) .period) (tables-of (now (sheet .entry)) .lots) ⌝ }
 {
-    sum_sheet(tariff, &Missing { minutes: lost_minutes(sheet) }, sheet)
+    let minutes = lost_minutes(sheet);
+    sum_sheet(tariff, &Missing { minutes }, sheet)
 }

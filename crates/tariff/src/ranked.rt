@@ -23,8 +23,14 @@ fn of_class(class: Class, amount: u64) -> RankedToll
     ensures { λ r. ⌜ r ≡ in-class class amount ⌝ }
 {
     match class {
-        Class::Express => RankedToll { express: amount, ordinary: 0 },
-        Class::Ordinary => RankedToll { express: 0, ordinary: amount },
+        Class::Express => RankedToll {
+            express: amount,
+            ordinary: 0,
+        },
+        Class::Ordinary => RankedToll {
+            express: 0,
+            ordinary: amount,
+        },
     }
 }
 
@@ -34,7 +40,7 @@ pub impl Tariff for Ranked as RankedTariff {
     ghost prices = { λ tariff. by-rank };
 
     fn nought(&self) -> RankedToll {
-        RankedToll { express: 0, ordinary: 0 }
+        of_class(Class::Ordinary, 0)
     }
 
     fn late(&self, class: Class, parcels: u32, minutes: u16) -> RankedToll {
@@ -46,7 +52,10 @@ pub impl Tariff for Ranked as RankedTariff {
     }
 
     fn add(&self, a: RankedToll, b: RankedToll) -> RankedToll {
-        RankedToll { express: a.express + b.express, ordinary: a.ordinary + b.ordinary }
+        RankedToll {
+            express: a.express + b.express,
+            ordinary: a.ordinary + b.ordinary,
+        }
     }
 
     fn at_most(&self, a: RankedToll, b: RankedToll) -> bool {

@@ -17,8 +17,8 @@ with-lot-sum-requires g c κs =
     record {
       able = c .pre .able (c .loop-lot .lot-index) (c .loop-lot-test .taken);
       room = add-fits _ (g .T·Tariff·met .lawful tariff .tolls) _ (paid-at lot-weight lots) (length lots) _ _
-        (λ i within. g .C·Charge·met .modest (c .args .charge .now) tariff (lot-at lots i) (c .pre .able i within))
-        (c .pre .room) (c .loop-lot-test .taken) (c .loop-lot .inv);
+          (λ i within. g .C·Charge·met .modest (c .args .charge .now) tariff (lot-at lots i) (c .pre .able i within))
+          (c .pre .room) (c .loop-lot-test .taken) (c .loop-lot .inv);
     }
 
 pub loop-lot-again : need.loop-lot-again
@@ -29,6 +29,6 @@ returns g c =
     let lots = c .args .lots .now in
     let tariff = c .args .tariff .now in
     let end = summed _ (g .T·Tariff·met .lawful tariff .tolls) _ (paid-at lot-weight lots) _ (length lots) _
-          (λ i within. g .C·Charge·met .modest (c .args .charge .now) tariff (lot-at lots i) (c .pre .able i within))
-          (c .loop-lot .inv) (omega arith) in
+    (λ i within. g .C·Charge·met .modest (c .args .charge .now) tariff (lot-at lots i) (c .pre .able i within))
+    (c .loop-lot .inv) (omega arith) in
     record { answer = end .0; light = end .1 }

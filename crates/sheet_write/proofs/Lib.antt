@@ -1,0 +1,3 @@
+pub mod Putting
+pub mod Sizes
+pub mod Back

@@ -1,0 +1,3 @@
+//! Writing a sheet back as bytes.
+mod put;
+pub mod write;
