@@ -75,7 +75,7 @@ pub impl fmt::Display for DraftFault as DraftFaultDisplay {
 pub impl fmt::Display for Wrong<'_> as WrongDisplay {
     fn fmt<W: fmt::Write>(&self, f: &mut fmt::Formatter<W>) -> fmt::Result {
         match *self {
-            Wrong::NoLine(word) => write!(f, "no line begins so: '{word}'"),
+            Wrong::NoLine(word) => write!(f, "no line begins with '{word}'"),
             Wrong::Words(form) => write!(f, "too few or too many words: it should read '{form}'"),
             Wrong::NoNumber(word) => write!(f, "no number from 0 to 65535: '{word}'"),
             Wrong::NoSide(word) => write!(f, "neither 'arrival' nor 'departure': '{word}'"),

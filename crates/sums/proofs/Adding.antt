@@ -1,18 +1,24 @@
--- A sum that is formed one by one, how bulky it grows, and the room for each addition.
+-- A sum that is formed one by one, and the room that weights leave.
 use Prim.Native.Nat.{ℕ, zero, suc, _+_, _*_, _≤_, _<_}
-use mathlib.Core.Path.{_≡_, refl, ap, ap₂, _∙_}
+use mathlib.Core.Path.{_≡_, refl, ap, _∙_}
 use mathlib.Core.Logic.{_⊎_, inl, inr}
 use native.Mathlib.Nat.{suc-mul}
 use native.Mathlib.Numerals.{add-one}
 use native.Mathlib.Omega.{arith}
 use Rattle.std.proofs.shelf.Tests.{cases-eq}
-use Rattle.tariff.specs.Tolls.{Tolls, Lawful-tolls, numbers, cap}
+use Rattle.tariff.specs.Tolls.{Tolls, Lawful-tolls, numbers}
 use Rattle.sums.specs.Totals.{total}
 
 module _ {A : Type 0} (t : Tolls A) where
   pub total-none : (f : ℕ → A) → t .nought ≡ total t 0 f
   unfolding total
   total-none f = refl
+
+  pub nought-light : Lawful-tolls t → (w : ℕ → ℕ) (s : A) → s ≡ t .nought → t .bulk s ≤ total numbers 0 w
+  nought-light laws w s is = omega (arith, laws .light, ap (t .bulk) is)
+
+  pub total-all : (f : ℕ → A) (k n : ℕ) (s : A) → s ≡ total t k f → k ≡ n → s ≡ total t n f
+  total-all f k n s is all = is ∙ ap (λ j. total t j f) all
 
   pub total-more : (f : ℕ → A) (k : ℕ) (s r : A) → s ≡ total t k f → r ≡ t .plus s (f k) → r ≡ total t (k + 1) f
   unfolding total
@@ -34,22 +40,17 @@ unfolding total
 numbers-bound w zero each h = omega arith
 numbers-bound w (suc n) each h = omega (arith, numbers-bound w n each (λ i k. h i (omega arith)), h n (omega arith), suc-mul n each)
 
--- tolls that are no bulkier than their weights
-module _ {A : Type 0} (t : Tolls A) (laws : Lawful-tolls t) (f : ℕ → A) (w : ℕ → ℕ) where
-  total-bulk : (n : ℕ) → ((i : ℕ) → i < n → t .bulk (f i) ≤ w i) → t .bulk (total t n f) ≤ total numbers n w
-  unfolding total
-  total-bulk zero h = omega (arith, laws .light)
-  total-bulk (suc n) h = omega (arith, total-bulk n (λ i k. h i (omega arith)), h n (omega arith), laws .sum-bulk (total t n f) (f n))
+pub weight-all : (w : ℕ → ℕ) (k n bulk : ℕ) → bulk ≤ total numbers k w → k ≤ n → bulk ≤ total numbers n w
+weight-all w k n bulk light h = omega (arith, numbers-rising w k n h)
 
-  -- what the loop has when it ends
-  pub summed : (k n : ℕ) (s : A) → ((i : ℕ) → i < n → t .bulk (f i) ≤ w i) → s ≡ total t k f → k ≡ n → (s ≡ total t n f) × (t .bulk s ≤ total numbers n w)
-  summed k n s light is all =
-      let whole = is ∙ ap (λ j. total t j f) all in
-      (whole, omega (arith, total-bulk n light, ap (t .bulk) whole))
+-- room for one weight more
+pub weight-fits : (w : ℕ → ℕ) (n k most bulk : ℕ) → total numbers n w ≤ most → k < n → bulk ≤ total numbers k w → bulk + w k ≤ most
+unfolding total
+weight-fits w n k most bulk room h light =
+    let one-more : total numbers (suc k) w ≤ total numbers n w = numbers-rising w (suc k) n (omega arith) in
+    omega arith
 
-  pub add-fits : (n k : ℕ) (s : A) → ((i : ℕ) → i < n → t .bulk (f i) ≤ w i) → total numbers n w ≤ cap → k < n → s ≡ total t k f → t .bulk s + t .bulk (f k) ≤ cap
-  unfolding total
-  add-fits n k s light room h is =
-      let so-far = total-bulk k (λ i below. light i (omega arith)) in
-      let one-more : total numbers (suc k) w ≤ total numbers n w = numbers-rising w (suc k) n (omega arith) in
-      omega (arith, light k h, ap (t .bulk) is)
+-- one weight more
+pub weight-more : (w : ℕ → ℕ) (k before after : ℕ) → before ≤ total numbers k w → after ≤ before + w k → after ≤ total numbers (k + 1) w
+unfolding total
+weight-more w k before after light more = rw add-one (omega arith)

@@ -14,9 +14,8 @@ pub trait Charge<T: Tariff> {
     /// What the lot pays.
     ghost pays: { Self → T → Lot → T·Toll };
 
-    law modest: { (way : Self) (tariff : T) (lot : Lot) → can way tariff lot → T·Tariff .prices tariff .tolls .bulk (pays way tariff lot) ≤ lot-weight lot };
-
     fn charge(&self, tariff: &T, lot: Lot) -> T::Toll
         requires { ⌜ can (now self) (now tariff) lot ⌝ }
-        ensures { λ r. ⌜ r ≡ pays (now (self .entry)) (now (tariff .entry)) lot ⌝ };
+        ensures answer { λ r. ⌜ r ≡ pays (now (self .entry)) (now (tariff .entry)) lot ⌝ }
+        ensures light { λ r. ⌜ T·Tariff .prices (now (tariff .entry)) .tolls .bulk r ≤ lot-weight lot ⌝ };
 }

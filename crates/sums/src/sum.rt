@@ -2,7 +2,7 @@
 ghost use mathlib.Core.Path.{_≡_};
 ghost use Prim.Native.Nat.{_+_, _≤_};
 ghost use Rattle.tariff.specs.Tolls.{cap};
-ghost use Rattle.sums.specs.Totals.{Each, lots-total, lots-weight};
+ghost use Rattle.sums.specs.Totals.{Each, lot-weight, lots-total, lots-weight};
 use crate::charge::Charge;
 use sheet::records::Lot;
 use tariff::charges::Tariff;
@@ -10,8 +10,9 @@ use tariff::charges::Tariff;
 /// A sum and one lot's charge more.
 fn with_lot<T: Tariff, C: Charge<T>>(tariff: &T, charge: &C, sum: T::Toll, lot: Lot) -> T::Toll
     requires able { ⌜ can (now charge) (now tariff) lot ⌝ }
-    requires room { ⌜ prices (now tariff) .tolls .bulk sum + prices (now tariff) .tolls .bulk (pays (now charge) (now tariff) lot) ≤ cap ⌝ }
-    ensures { λ r. ⌜ r ≡ prices (now (tariff .entry)) .tolls .plus sum (pays (now (charge .entry)) (now (tariff .entry)) lot) ⌝ }
+    requires room { ⌜ prices (now tariff) .tolls .bulk sum + lot-weight lot ≤ cap ⌝ }
+    ensures answer { λ r. ⌜ r ≡ prices (now (tariff .entry)) .tolls .plus sum (pays (now (charge .entry)) (now (tariff .entry)) lot) ⌝ }
+    ensures light { λ r. ⌜ prices (now (tariff .entry)) .tolls .bulk r ≤ prices (now (tariff .entry)) .tolls .bulk sum + lot-weight lot ⌝ }
 {
     let due = charge.charge(tariff, lot);
     tariff.add(sum, due)

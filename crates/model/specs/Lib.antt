@@ -1,0 +1,10 @@
+pub mod Yard
+pub mod Finite
+pub mod Lateness
+pub mod Meeting
+pub mod Lots
+pub mod Tangles
+pub mod Tolls
+pub mod Reserves
+pub mod Laws
+pub mod Examples
