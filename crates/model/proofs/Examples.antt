@@ -11,7 +11,7 @@ use Rattle.model.specs.Lateness.{least, worst}
 use Rattle.model.specs.Meeting.{sources, meets}
 use Rattle.model.specs.Lots.{lot-count, path, ends}
 use Rattle.model.specs.Tangles.{Tangled-lot, scan, tangled}
-use Rattle.model.specs.Tolls.{toll, late-lots, miss-bill, bill, struck-charges, plan-toll}
+use Rattle.model.specs.Tolls.{toll, late-lots, miss-bill, bill, struck-charges, plan-toll, Planned}
 use Rattle.model.specs.Reserves.{tolerance, greatest, reserve}
 use Rattle.model.specs.Laws.{Reported, Clear}
 use Rattle.model.specs.Examples.{mixed-yard, Hypotheses-met, Yard-sheet-worked}
@@ -57,7 +57,7 @@ hypotheses-met = record {
 }
 
 pub yard-sheet-worked : Yard-sheet-worked
-unfolding total event-count activity-count tail head handed noted transfer struck unmarked top low count turns least worst sources lot-count path ends some toll late-lots miss-bill bill struck-charges plan-toll tolerance greatest reserve
+unfolding Planned total event-count activity-count tail head handed noted transfer struck unmarked top low count turns least worst sources lot-count path ends some toll late-lots miss-bill bill struck-charges plan-toll tolerance greatest reserve
 yard-sheet-worked = record {
   formed = refl;
   reserves = refl;
@@ -66,8 +66,10 @@ yard-sheet-worked = record {
   miss-40 = refl;
   bill-40 = refl;
   toll-40 = refl;
+  waits-40 = λ z h. h 1 (omega arith) refl;
   bill-45 = refl;
   toll-45 = refl;
+  goes-45 = λ z h. h 1 (omega arith) refl;
   going-lateness = refl;
   going-toll = refl;
   meeting = refl;

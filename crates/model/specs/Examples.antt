@@ -28,7 +28,7 @@ use Rattle.model.specs.Yard.{Yard, transfer, struck, unmarked}
 use Rattle.model.specs.Lateness.{Choice, least, worst, all-wait}
 use Rattle.model.specs.Meeting.{live, meets}
 use Rattle.model.specs.Tangles.{tangled}
-use Rattle.model.specs.Tolls.{fares-of, toll, miss-bill, bill, plan-toll}
+use Rattle.model.specs.Tolls.{fares-of, toll, miss-bill, bill, plan-toll, Planned}
 use Rattle.model.specs.Reserves.{reserve}
 use Rattle.model.specs.Laws.{yard, Reported, Clear}
 
@@ -114,9 +114,11 @@ pub record Yard-sheet-worked : Type 0 where
   pub miss-40 : miss-bill (late-yard 40) numbers (fares-of by-minutes (late-yard 40)) 1 ≡ 300
   pub bill-40 : bill (late-yard 40) numbers (fares-of by-minutes (late-yard 40)) 2 ≡ 270
   pub toll-40 : plan-toll (late-yard 40) numbers (fares-of by-minutes (late-yard 40)) ≡ 430
+  pub waits-40 : (z : Choice) → Planned (late-yard 40) numbers (fares-of by-minutes (late-yard 40)) z → z 1 ≡ true
   -- with 45 parcels waiting costs 300 too, and the transfer goes
   pub bill-45 : bill (late-yard 45) numbers (fares-of by-minutes (late-yard 45)) 2 ≡ 300
   pub toll-45 : plan-toll (late-yard 45) numbers (fares-of by-minutes (late-yard 45)) ≡ 460
+  pub goes-45 : (z : Choice) → Planned (late-yard 45) numbers (fares-of by-minutes (late-yard 45)) z → z 1 ≡ false
   pub going-lateness : listed 5 (least (late-yard 45) going) ≡ 10 ∷ 8 ∷ 0 ∷ 8 ∷ 0 ∷ []
   pub going-toll : toll (late-yard 45) numbers (fares-of by-minutes (late-yard 45)) going (least (late-yard 45) going) ≡ 460
   -- a second delay, of 4 at event 2: they meet there, and no more once the transfer is struck
