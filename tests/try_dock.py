@@ -1,10 +1,11 @@
 #!/usr/bin/env python3
-"""Tries `dock show` and `dock pack` on made-up sheets and listings against an independent reader.
+"""Tries `dock show` and `dock pack` on made-up sheets and listings against an independent reader, and `dock carry` and `dock remains` against the rules' formulas.
 
-usage: tests/try_dock.py [HOW_MANY] [SEED]     (default: 500 sheets, seed 1; DOCK names the program, else target/bin/dock)
+usage: tests/try_dock.py [HOW_MANY] [SEED]     (default: 500 sheets, made from the number 1; DOCK names the program, else target/bin/dock)
 
 Each made-up sheet keeps every rule; then it is damaged, cut, made too long and so on. Every answer of the program has
 to be the reference's, byte by byte: the listing, or the refusal's number, section, record and byte place, and the status.
+What remains under a rule is found by trying every lateness from 1,440 down.
 """
 
 import collections
@@ -251,15 +252,19 @@ def once(trial, rng, cut):
         trial.pack("spoiled listings", spoiled(rng, ref.listing(sheet)))
 
 
+HELP = [b"dock show SHEET", b"dock pack LISTING SHEET", b"dock carry RULE MARGIN LATENESS", b"dock remains RULE MARGIN ALLOWANCE"]
+
+
 def odds(trial):
     """What a user may well do: files that are not there, arguments too few or too many, text that is none."""
     for words in (["show", trial.path("none")], ["pack", trial.path("none"), trial.path("x")], ["pack", os.path.join(HERE, "..", "examples", "yard.listing"), trial.path("none/x")],
-                  ["show"], ["pack", "a"], ["show", "a", "b"], ["pack", "a", "b", "c"], ["sow", "a"], ["show", trial.folder]):
+                  ["show"], ["pack", "a"], ["show", "a", "b"], ["pack", "a", "b", "c"], ["sow", "a"], ["show", trial.folder],
+                  ["carry"], ["carry", "gate", "3"], ["carry", "gate", "3", "4", "5"], ["remains", "gate"], ["remains", "gate", "3", "4", "5"]):
         out, code, err = trial.run(*words)
         trial.note("plain failures", code == 1 and out == b"" and err.count(b"\n") == 1, (words, out, code, err))
     for words in (["--help"], ["-h"], ["help"], []):
         out, code, err = trial.run(*words)
-        trial.note("help", code == 0 and b"dock show SHEET" in out and err == b"", (words, out, code, err))
+        trial.note("help", code == 0 and all(line in out for line in HELP) and err == b"", (words, out, code, err))
     with open(trial.path("b.listing"), "wb") as f:
         f.write(b"period 60\n# \xff\n")
     out, code, _ = trial.run("pack", trial.path("b.listing"), trial.path("x"))
@@ -272,6 +277,59 @@ def counts(trial):
     trial.pack("uncountable", "period 1\n" * 65536)
     trial.pack("uncountable", "period 1\nlot ordinary 1" + " 0" * 65535 + "\n")
     trial.pack("uncountable", "period 1\nlot ordinary 1" + " 0" * 65536 + "\n")
+
+
+DAY = 1440
+RULES = {
+    "deduct": lambda margin, lateness: max(lateness - margin, 0),
+    "gate": lambda margin, lateness: lateness if lateness > margin else 0,
+    "share": lambda margin, lateness: lateness * (100 - min(margin, 100)) // 100,
+}
+
+
+def remaining(rule, margin, allowance):
+    """The greatest lateness up to a day that hands on at most the allowance: the first from the top."""
+    return next(lateness for lateness in range(DAY, -1, -1) if RULES[rule](margin, lateness) <= allowance)
+
+
+def reckoned(trial, kind, words, answer):
+    out, code, err = trial.run(*words)
+    trial.note(kind, (out, code, err) == (b"%d\n" % answer, 0, b""), (words, answer, out, code, err))
+
+
+def told(trial, kind, words, complaint):
+    out, code, err = trial.run(*words)
+    trial.note(kind, (out.decode(), code, err.decode()) == ("", 1, complaint + "\n"), (words, complaint, out, code, err))
+
+
+def minutes(rng):
+    return rng.choice([0, 1, 99, 100, 101, DAY - 1, DAY, rng.randint(0, 120), rng.randint(0, 120), rng.randint(0, DAY), rng.randint(0, DAY)])
+
+
+def decimal(rng, number):
+    return rng.choice(["", "", "", "0", "000000"]) + str(number)
+
+
+def rules(trial, rng, how_many):
+    """The rules' worked cases, and so many made-up ones under each rule."""
+    for words, answer in (("carry share 50 7", 3), ("remains share 50 3", 7), ("carry gate 3 3", 0), ("carry gate 3 4", 4)):
+        reckoned(trial, "worked cases of the rules", words.split(), answer)
+    for rule in RULES:
+        for _ in range(how_many):
+            margin, lateness, allowance = minutes(rng), minutes(rng), minutes(rng)
+            reckoned(trial, f"carry {rule}", ["carry", rule, decimal(rng, margin), decimal(rng, lateness)], RULES[rule](margin, lateness))
+            reckoned(trial, f"remains {rule}", ["remains", rule, decimal(rng, margin), decimal(rng, allowance)], remaining(rule, margin, allowance))
+
+
+def wrong_arguments(trial, rng):
+    """Numbers that are none or too long, at either place, and rules that are none."""
+    for command, second in (("carry", "lateness"), ("remains", "allowance")):
+        for word in [*BAD, "1441", "01441", "65535", "65537", " 5", "5 ", "5\n", "-0", "1e2", "1,440"]:
+            right = str(minutes(rng))
+            for name, pair in (("margin", [word, right]), (second, [right, word])):
+                told(trial, "wrong numbers of a rule", [command, rng.choice(list(RULES)), *pair], f"dock: the {name} has to be a whole number from 0 to 1440, in decimal")
+        for name in ["", "Deduct", "gates", "shar", "share ", "é", "carry"]:
+            told(trial, "no such rules", [command, name, "3", "4"], f"dock: no such rule: '{name}'; the rules are deduct, gate and share")
 
 
 def main():
@@ -287,6 +345,8 @@ def main():
         counts(trial)
         for at in range(how_many):
             once(trial, rng, cut=at % 50 == 0)
+        rules(trial, rng, how_many=200)
+        wrong_arguments(trial, rng)
     for kind, tried in sorted(trial.tried.items()):
         bad = sum(1 for k, _ in trial.wrong if k == kind)
         print(f"{kind}: {tried} tried, {bad} wrong")

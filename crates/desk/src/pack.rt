@@ -22,7 +22,14 @@ use sheet_write::write::write_sheet;
 use std::alloc::Global;
 
 /// The bytes of the sheet that a listing says; it is read into the tables that the caller lends, and so keeps every rule.
-pub fn pack(heap: Global, text: &[u8], events: &mut [Event], activities: &mut [Activity], lots: &mut [Lot], steps: &mut [u16]) -> Result<Vec<u8>, DeskFault>
+pub fn pack(
+    heap: Global,
+    text: &[u8],
+    events: &mut [Event],
+    activities: &mut [Activity],
+    lots: &mut [Lot],
+    steps: &mut [u16],
+) -> Result<Vec<u8>, DeskFault>
     ensures { λ r. ⌜ made r (λ out. Packed (vec-items out)) ⌝ }
 {
     let draft = draft_bytes(heap, text)?;
@@ -39,7 +46,14 @@ fn draft_bytes(heap: Global, text: &[u8]) -> Result<Vec<u8>, DeskFault> {
 }
 
 /// The sheet that these bytes hold, written anew, which gives the same bytes.
-pub fn checked(heap: Global, bytes: &[u8], events: &mut [Event], activities: &mut [Activity], lots: &mut [Lot], steps: &mut [u16]) -> Result<Vec<u8>, DeskFault>
+pub fn checked(
+    heap: Global,
+    bytes: &[u8],
+    events: &mut [Event],
+    activities: &mut [Activity],
+    lots: &mut [Lot],
+    steps: &mut [u16],
+) -> Result<Vec<u8>, DeskFault>
     ensures same { λ r. ⌜ made r (λ out. vec-items out ≡ now (bytes .entry)) ⌝ }
     ensures packed { λ r. ⌜ made r (λ out. Packed (vec-items out)) ⌝ }
     ensures blames { λ r. ⌜ refused r (Blames (reading-of (room-in (now (events .entry)) (now (activities .entry)) (now (lots .entry)) (now (steps .entry))) (now (bytes .entry)) .answer)) ⌝ }

@@ -15,7 +15,14 @@ use sheet_read::read::read_sheet;
 use std::alloc::Global;
 
 /// The listing of the sheet that these bytes hold, read into the tables that the caller lends.
-pub fn show(heap: Global, bytes: &[u8], events: &mut [Event], activities: &mut [Activity], lots: &mut [Lot], steps: &mut [u16]) -> Result<String, DeskFault>
+pub fn show(
+    heap: Global,
+    bytes: &[u8],
+    events: &mut [Event],
+    activities: &mut [Activity],
+    lots: &mut [Lot],
+    steps: &mut [u16],
+) -> Result<String, DeskFault>
     ensures shown { λ r. ⌜ made r (λ text. Shown (now (bytes .entry)) (string-bytes text)) ⌝ }
     ensures blames { λ r. ⌜ refused r (Blames (reading-of (room-in (now (events .entry)) (now (activities .entry)) (now (lots .entry)) (now (steps .entry))) (now (bytes .entry)) .answer)) ⌝ }
 {

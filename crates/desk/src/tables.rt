@@ -12,11 +12,29 @@ use sheet::sheet::Sheet;
 use sheet_read::read::Extent;
 
 /// The sheet that reading left at the fronts of these tables.
-pub(crate) fn sheet_in<'a>(extent: Extent, events: &'a [Event], activities: &'a [Activity], lots: &'a [Lot], steps: &'a [u16]) -> Sheet<'a>
+pub(crate) fn sheet_in<'a>(
+    extent: Extent,
+    events: &'a [Event],
+    activities: &'a [Activity],
+    lots: &'a [Lot],
+    steps: &'a [u16],
+) -> Sheet<'a>
     requires fits { ⌜ Fits-in extent (length (now events)) (length (now activities)) (length (now lots)) (length (now steps)) ⌝ }
     requires kept { ⌜ well-formed (read-tables extent (now events) (now activities) (now lots) (now steps)) ≡ true ⌝ }
     ensures { λ r. ⌜ tables-of r ≡ read-tables extent (now (events .entry)) (now (activities .entry)) (now (lots .entry)) (now (steps .entry)) ⌝ }
 {
-    let Extent { period, events: event_count, activities: activity_count, lots: lot_count, steps: step_count } = extent;
-    Sheet::new(period, &events[0..event_count], &activities[0..activity_count], &lots[0..lot_count], &steps[0..step_count])
+    let Extent {
+        period,
+        events: event_count,
+        activities: activity_count,
+        lots: lot_count,
+        steps: step_count,
+    } = extent;
+    Sheet::new(
+        period,
+        &events[0..event_count],
+        &activities[0..activity_count],
+        &lots[0..lot_count],
+        &steps[0..step_count],
+    )
 }

@@ -7,10 +7,23 @@ use std::env;
 #[derive(Drop)]
 pub enum Command {
     Help,
-    Show { sheet: String },
-    Pack { listing: String, sheet: String },
-    Carry { rule: String, margin: String, lateness: String },
-    Remains { rule: String, margin: String, allowance: String },
+    Show {
+        sheet: String,
+    },
+    Pack {
+        listing: String,
+        sheet: String,
+    },
+    Carry {
+        rule: String,
+        margin: String,
+        lateness: String,
+    },
+    Remains {
+        rule: String,
+        margin: String,
+        allowance: String,
+    },
 }
 
 /// The command that the program's arguments say.
@@ -25,8 +38,16 @@ pub fn read(rt: &LibcRuntime) -> Result<Command, DockFault> {
         ("--help" | "-h" | "help", _, _, _, _) => Ok(Command::Help),
         ("show", Some(sheet), None, None, None) => Ok(Command::Show { sheet }),
         ("pack", Some(listing), Some(sheet), None, None) => Ok(Command::Pack { listing, sheet }),
-        ("carry", Some(rule), Some(margin), Some(lateness), None) => Ok(Command::Carry { rule, margin, lateness }),
-        ("remains", Some(rule), Some(margin), Some(allowance), None) => Ok(Command::Remains { rule, margin, allowance }),
+        ("carry", Some(rule), Some(margin), Some(lateness), None) => Ok(Command::Carry {
+            rule,
+            margin,
+            lateness,
+        }),
+        ("remains", Some(rule), Some(margin), Some(allowance), None) => Ok(Command::Remains {
+            rule,
+            margin,
+            allowance,
+        }),
         ("show" | "pack" | "carry" | "remains", _, _, _, _) => Err(DockFault::Arguments(name)),
         _ => Err(DockFault::NoCommand(name)),
     }

@@ -14,7 +14,7 @@ pub enum DockFault {
     /// A file cannot be read or written.
     File(String, io::Error),
     NoRule(String),
-    /// An argument is no number of minutes up to a day.
+    /// An argument is no decimal from 0 to 1,440.
     NoMinutes(Argument),
     Desk(DeskFault),
     Other(io::Error),
@@ -50,11 +50,23 @@ pub fn tell(rt: &LibcRuntime, fault: DockFault) {
         DockFault::Desk(DeskFault::Refused(fault)) => println!(rt, "{fault}"),
         DockFault::Desk(DeskFault::Line(line)) => println!(rt, "{line}"),
         DockFault::Desk(DeskFault::Memory) => eprintln!(rt, "dock: out of memory"),
-        DockFault::NoCommand(name) => eprintln!(rt, "dock: no such command: '{name}'; see dock --help"),
-        DockFault::Arguments(name) => eprintln!(rt, "dock: too few or too many arguments for '{name}'; see dock --help"),
+        DockFault::NoCommand(name) => eprintln!(
+            rt,
+            "dock: no such command: '{name}'; see dock --help"
+        ),
+        DockFault::Arguments(name) => eprintln!(
+            rt,
+            "dock: too few or too many arguments for '{name}'; see dock --help"
+        ),
         DockFault::File(name, error) => eprintln!(rt, "dock: {name}: {error}"),
-        DockFault::NoRule(name) => eprintln!(rt, "dock: no such rule: '{name}'; the rules are deduct, gate and share"),
-        DockFault::NoMinutes(argument) => eprintln!(rt, "dock: the {argument} has to be a decimal number from 0 to 1440"),
+        DockFault::NoRule(name) => eprintln!(
+            rt,
+            "dock: no such rule: '{name}'; the rules are deduct, gate and share"
+        ),
+        DockFault::NoMinutes(argument) => eprintln!(
+            rt,
+            "dock: the {argument} has to be a whole number from 0 to 1440, in decimal"
+        ),
         DockFault::Other(error) => eprintln!(rt, "dock: {error}"),
     };
 }

@@ -20,10 +20,11 @@ const USAGE: &str = "dock: reads, checks, prints and writes sheets, and answers 
   dock --help                          print this
 
 RULE is one of
-  deduct   hands on the lateness less the margin
-  gate     hands on nothing up to the margin, and above it the whole lateness
-  share    takes off as many hundredths of the lateness as the margin says, and rounds down
-MARGIN, LATENESS and ALLOWANCE are decimal numbers from 0 to 1440.
+  deduct   the lateness less the margin is handed on
+  gate     up to the margin nothing is handed on, above it the whole lateness
+  share    the margin is the percentage of the lateness that is regained, and counts as 100 where
+           it is more; the rest is handed on, rounded down
+MARGIN, LATENESS and ALLOWANCE are whole numbers from 0 to 1440, in decimal.
 
 A sheet that is refused prints one line, as 'refused 5 section 3 record 2 byte 34', and a line of
 a listing that cannot be read prints its number and what is wrong, as 'line 7: ..'. Then, and
@@ -48,7 +49,15 @@ fn run(rt: &LibcRuntime) -> Result<(), DockFault> {
         Command::Help => Ok(println!(rt, "{USAGE}")?),
         Command::Show { sheet } => show::run(rt, sheet),
         Command::Pack { listing, sheet } => pack::run(rt, listing, sheet),
-        Command::Carry { rule, margin, lateness } => rules::carry(rt, rule, margin, lateness),
-        Command::Remains { rule, margin, allowance } => rules::remains(rt, rule, margin, allowance),
+        Command::Carry {
+            rule,
+            margin,
+            lateness,
+        } => rules::carry(rt, rule, margin, lateness),
+        Command::Remains {
+            rule,
+            margin,
+            allowance,
+        } => rules::remains(rt, rule, margin, allowance),
     }
 }

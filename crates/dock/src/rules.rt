@@ -7,7 +7,12 @@ use desk::minutes::minutes;
 use desk::rules::RuleName;
 use desk::rules::rule_named;
 
-pub fn carry(rt: &LibcRuntime, rule: String, margin: String, lateness: String) -> Result<(), DockFault> {
+pub fn carry(
+    rt: &LibcRuntime,
+    rule: String,
+    margin: String,
+    lateness: String,
+) -> Result<(), DockFault> {
     let rule = named(rule)?;
     let margin = minutes(margin.as_str(), Argument::Margin)?;
     let lateness = minutes(lateness.as_str(), Argument::Lateness)?;
@@ -16,7 +21,12 @@ pub fn carry(rt: &LibcRuntime, rule: String, margin: String, lateness: String) -
     Ok(())
 }
 
-pub fn remains(rt: &LibcRuntime, rule: String, margin: String, allowance: String) -> Result<(), DockFault> {
+pub fn remains(
+    rt: &LibcRuntime,
+    rule: String,
+    margin: String,
+    allowance: String,
+) -> Result<(), DockFault> {
     let rule = named(rule)?;
     let margin = minutes(margin.as_str(), Argument::Margin)?;
     let allowance = minutes(allowance.as_str(), Argument::Allowance)?;

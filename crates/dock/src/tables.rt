@@ -19,9 +19,24 @@ pub struct Tables {
 
 impl Tables {
     pub fn new(heap: Global) -> Result<Tables, DockFault> {
-        let event = Event { truck: 0, site: 0, side: Side::Arrival, tolerance: 0 };
-        let activity = Activity { kind: Kind::Drive, tail: 0, head: 0, margin: 0 };
-        let lot = Lot { class: Class::Ordinary, parcels: 0, first: 0, count: 0 };
+        let event = Event {
+            truck: 0,
+            site: 0,
+            side: Side::Arrival,
+            tolerance: 0,
+        };
+        let activity = Activity {
+            kind: Kind::Drive,
+            tail: 0,
+            head: 0,
+            margin: 0,
+        };
+        let lot = Lot {
+            class: Class::Ordinary,
+            parcels: 0,
+            first: 0,
+            count: 0,
+        };
         Ok(Tables {
             events: vec![in heap; event; 512]?,
             activities: vec![in heap; activity; 1024]?,

@@ -77,7 +77,12 @@ pub impl fmt::Display for EventLine as EventLineDisplay {
     ghost shown = { λ e. Some (event-line (e .0)) };
 
     fn fmt<W: fmt::Write>(&self, f: &mut fmt::Formatter<W>) -> fmt::Result {
-        let Event { truck, site, side, tolerance } = self.0;
+        let Event {
+            truck,
+            site,
+            side,
+            tolerance,
+        } = self.0;
         let side = side_word(side);
         write!(f, "event {truck} {site} {side} {tolerance}")
     }
@@ -87,7 +92,12 @@ pub impl fmt::Display for ActivityLine as ActivityLineDisplay {
     ghost shown = { λ a. Some (activity-line (a .0)) };
 
     fn fmt<W: fmt::Write>(&self, f: &mut fmt::Formatter<W>) -> fmt::Result {
-        let Activity { kind, tail, head, margin } = self.0;
+        let Activity {
+            kind,
+            tail,
+            head,
+            margin,
+        } = self.0;
         let kind = kind_word(kind);
         write!(f, "{kind} {tail} {head} {margin}")
     }

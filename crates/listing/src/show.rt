@@ -54,7 +54,11 @@ fn add_lots(text: &mut String, sheet: &Sheet) -> fmt::Result
 {
     for (i, lot) in sheet.lots.iter().enumerate() {
         if let Some(steps) = sheet.steps_of(i) {
-            text.writeln(LotLine { class: lot.class, parcels: lot.parcels, steps })?;
+            text.writeln(LotLine {
+                class: lot.class,
+                parcels: lot.parcels,
+                steps,
+            })?;
         }
     }
     Ok(())

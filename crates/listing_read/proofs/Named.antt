@@ -42,9 +42,9 @@ pub no-number : (w : List ℕ) → (allDigits w ≡ true → 0 < length w → va
 no-number w never =
     cond-false (is-number w) (Some (value-of w)) None
     (false-from (is-number w) (λ e.
-        let p = and-parts (ltb 0 (length w)) (allDigits w && ltb (value-of w) 65536) e in
-        let q = and-parts (allDigits w) (ltb (value-of w) 65536) (p .1) in
-        never (q .0) (ltb-true 0 (length w) (p .0)) (ltb-true (value-of w) 65536 (q .1))))
+    let p = and-parts (ltb 0 (length w)) (allDigits w && ltb (value-of w) 65536) e in
+    let q = and-parts (allDigits w) (ltb (value-of w) 65536) (p .1) in
+    never (q .0) (ltb-true 0 (length w) (p .0)) (ltb-true (value-of w) 65536 (q .1))))
 
 -- a plus sign is no digit
 pub plus-no-number : (w : List ℕ) → getD w 0 0 ≡ 43 → number-of w ≡ None

@@ -64,7 +64,10 @@ impl Section {
     fn new(heap: Global) -> Section
         ensures { λ r. ⌜ Empty r ⌝ }
     {
-        Section { count: 0, numbers: Vec::new(heap) }
+        Section {
+            count: 0,
+            numbers: Vec::new(heap),
+        }
     }
 
     /// Adds one record, of these numbers.
@@ -90,18 +93,38 @@ impl Section {
     pub(crate) fn add_event(&mut self, event: Event) -> Result<(), DraftFault>
         ensures { λ r. ⌜ made r (λ _. Added (now (self .entry)) (event-numbers event) (now (self .exit))) ⌝ }
     {
-        self.add(&[event.truck, event.site, side_number(event.side), event.tolerance])
+        self.add(
+            &[
+                event.truck,
+                event.site,
+                side_number(event.side),
+                event.tolerance,
+            ],
+        )
     }
 
     /// Adds an activity.
     pub(crate) fn add_activity(&mut self, activity: Activity) -> Result<(), DraftFault>
         ensures { λ r. ⌜ made r (λ _. Added (now (self .entry)) (activity-numbers activity) (now (self .exit))) ⌝ }
     {
-        self.add(&[kind_number(activity.kind), activity.tail, activity.head, activity.margin])
+        self.add(
+            &[
+                kind_number(activity.kind),
+                activity.tail,
+                activity.head,
+                activity.margin,
+            ],
+        )
     }
 
     /// Adds a lot with its steps.
-    pub(crate) fn add_lot(&mut self, heap: Global, class: Class, parcels: u16, steps: &[u16]) -> Result<(), DraftFault>
+    pub(crate) fn add_lot(
+        &mut self,
+        heap: Global,
+        class: Class,
+        parcels: u16,
+        steps: &[u16],
+    ) -> Result<(), DraftFault>
         ensures { λ r. ⌜ made r (λ _. Added (now (self .entry)) (lot-numbers class parcels (now (steps .entry))) (now (self .exit))) ⌝ }
     {
         let Ok(count) = u16::try_from(steps.len()) else {
@@ -127,7 +150,12 @@ impl Draft {
     pub(crate) fn new(heap: Global) -> Draft
         ensures { λ r. ⌜ Empty (r .terms) × Empty (r .events) × Empty (r .activities) × Empty (r .lots) ⌝ }
     {
-        Draft { terms: Section::new(heap), events: Section::new(heap), activities: Section::new(heap), lots: Section::new(heap) }
+        Draft {
+            terms: Section::new(heap),
+            events: Section::new(heap),
+            activities: Section::new(heap),
+            lots: Section::new(heap),
+        }
     }
 
     /// The draft as the bytes of a sheet.

@@ -24,7 +24,10 @@ pub fn read_listing(heap: Global, bytes: &[u8]) -> Result<Draft, ListingFault<'_
 {
     match std::str::from_utf8(bytes) {
         Ok(text) => read_lines(heap, text),
-        Err(error) => Err(ListingFault { line: line_of(bytes, error.valid_up_to()), wrong: Wrong::NoText }),
+        Err(error) => Err(ListingFault {
+            line: line_of(bytes, error.valid_up_to()),
+            wrong: Wrong::NoText,
+        }),
     }
 }
 
@@ -32,7 +35,10 @@ fn read_lines(heap: Global, text: &str) -> Result<Draft, ListingFault<'_>> {
     let mut draft = Draft::new(heap);
     for (i, line) in text.lines().enumerate() {
         if let Err(wrong) = draft.read_line(heap, line) {
-            return Err(ListingFault { line: i.saturating_add(1), wrong });
+            return Err(ListingFault {
+                line: i.saturating_add(1),
+                wrong,
+            });
         }
     }
     Ok(draft)
@@ -62,13 +68,21 @@ impl Draft {
         }
     }
 
-    fn read_record<'a>(&mut self, heap: Global, first: &'a str, rest: &[&'a str]) -> Result<(), Wrong<'a>> {
+    fn read_record<'a>(
+        &mut self,
+        heap: Global,
+        first: &'a str,
+        rest: &[&'a str],
+    ) -> Result<(), Wrong<'a>> {
         match first {
             "period" => self.terms.add_period(read_period(rest)?)?,
             "event" => self.events.add_event(read_event(rest)?)?,
-            "drive" => self.activities.add_activity(read_activity(Kind::Drive, rest)?)?,
-            "stand" => self.activities.add_activity(read_activity(Kind::Stand, rest)?)?,
-            "transfer" => self.activities.add_activity(read_activity(Kind::Transfer, rest)?)?,
+            "drive" => self.activities
+                .add_activity(read_activity(Kind::Drive, rest)?)?,
+            "stand" => self.activities
+                .add_activity(read_activity(Kind::Stand, rest)?)?,
+            "transfer" => self.activities
+                .add_activity(read_activity(Kind::Transfer, rest)?)?,
             "lot" => self.read_lot(heap, rest)?,
             _ => return Err(Wrong::NoLine(first)),
         }

@@ -1,23 +1,21 @@
 -- The bills are below what any choice makes due, and the plan makes no more due.
-use mathlib.Core.Path.{_≡_, refl, sym, ap, ap₂, _∙_, subst}
-use mathlib.Core.Bool.{Bool, true, false, cond, not, _&&_, _||_}
-use mathlib.Core.List.{List, [], _∷_, _++_}
+use mathlib.Core.Path.{_≡_, sym, ap, ap₂, _∙_}
+use mathlib.Core.Bool.{Bool, true, false, not, _&&_}
 use mathlib.Core.Logic.{_⊎_, inl, inr}
-use Prim.Native.Nat.{ℕ, zero, suc, _-_, _≤_, _<_}
+use Prim.Native.Nat.{ℕ, zero, suc, _-_, _<_}
 use native.Mathlib.Omega.{arith}
-use lib.Dec.{eqb, ltb, leb}
-use Rattle.std.proofs.shelf.Tests.{cases-eq, cases-bool, eqb-true, ne-eqb, eq-eqb, and-left, and-right, and-parts, cond-true, cond-false, le-ltb, lt-ltb, ltb-true}
+use lib.Dec.{eqb, ltb}
+use Rattle.std.proofs.shelf.Tests.{cases-bool, eqb-true, and-parts, le-ltb}
 use Rattle.std.proofs.shelf.Ways.{tells}
-use Rattle.model.proofs.Ground.{Orderly, Sound, keen, le, self}
+use Rattle.model.proofs.Ground.{Sound, keen, le, self}
 use Rattle.model.specs.Finite.{turns}
-use Rattle.model.specs.Lateness.{Choice, Lawful, all-wait, binds, least, worst}
-use Rattle.model.specs.Lots.{end, whole}
+use Rattle.model.specs.Lateness.{Choice, binds, least, worst}
 use Rattle.model.specs.Meeting.{Apart, live}
 use Rattle.model.specs.Tolls.{Fares, Planned, bill, bill-step, branch, given, late-lots, miss-bill}
 use Rattle.model.specs.Yard.{Yard, activity-count, event-count, handed, head, noted, tail, unmarked}
 use Rattle.sums.specs.Totals.{total}
 use Rattle.tariff.specs.Tolls.{Lawful-tolls, Tolls}
-use Rattle.model.proofs.Forest.{zero-below, below-most, two-ways, carried, by-own}
+use Rattle.model.proofs.Forest.{zero-below, two-ways, carried, by-own}
 use Rattle.model.proofs.Tops.{found}
 use Rattle.model.proofs.Turns.{turns-is}
 use Rattle.model.proofs.Sums.{right, both-le, sum-same, sum-le, sum-none, sum-one, sum-plus}

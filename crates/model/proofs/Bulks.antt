@@ -1,29 +1,29 @@
 -- No toll that is formed on the way to a bill is larger than all lots' weights together.
-use mathlib.Core.Path.{_≡_, refl, sym, ap, ap₂, _∙_, subst}
+use mathlib.Core.Path.{_≡_, refl, sym, ap, _∙_}
 use mathlib.Core.Bool.{Bool, true, false, cond, not, _&&_, _||_}
-use mathlib.Core.List.{List, [], _∷_, _++_}
+use mathlib.Core.List.{List, [], _∷_}
 use mathlib.Core.Logic.{_⊎_, inl, inr}
 use Prim.Native.Nat.{ℕ, zero, suc, _+_, _-_, _≤_, _<_}
 use native.Mathlib.Omega.{arith}
-use lib.Dec.{eqb, ltb, leb}
-use Rattle.std.proofs.shelf.Tests.{cases-eq, cases-bool, cases-lt, eqb-true, eq-eqb, ne-eqb, le-ltb, lt-ltb, and-parts, and-right, cond-true, cond-false}
+use lib.Dec.{eqb, ltb}
+use Rattle.std.proofs.shelf.Tests.{cases-eq, cases-lt, eqb-true, ne-eqb, le-ltb, and-parts, and-right, cond-true, cond-false}
 use Rattle.std.proofs.shelf.Ways.{tells}
-use Rattle.model.proofs.Ground.{Chain, Orderly, Sound, keen}
+use Rattle.model.proofs.Ground.{Chain, Orderly, Sound}
 use Rattle.model.proofs.Rooms.{loop, Weighed, Roomy, lots-loop, acts-loop, lost-loop, Bill-roomy, Miss-roomy, Plan-roomy}
-use Rattle.model.specs.Finite.{count, some}
+use Rattle.model.specs.Finite.{some}
 use Rattle.model.specs.Lateness.{Choice, binds, least, worst}
-use Rattle.model.specs.Lots.{end, ends, lot-count, path, start, whole}
+use Rattle.model.specs.Lots.{end, lot-count, path, start, whole}
 use Rattle.model.specs.Meeting.{Apart, live}
-use Rattle.model.specs.Tolls.{Fares, bill, bill-step, branch, given, late-lots, miss-bill, pay, plan-toll, struck-charges, toll}
+use Rattle.model.specs.Tolls.{Fares, bill, branch, given, late-lots, miss-bill, pay, plan-toll, struck-charges}
 use Rattle.model.specs.Yard.{Yard, activity-count, event-count, head, noted, tail, unmarked}
 use Rattle.sums.specs.Totals.{total}
 use Rattle.tariff.specs.Tolls.{Lawful-tolls, Tolls, numbers}
-use Rattle.model.proofs.Sums.{right, sum-same, sum-none, sum-plus, sum-at}
+use Rattle.model.proofs.Sums.{right, sum-none, sum-plus, sum-at}
 use Rattle.model.proofs.Flow.{flow}
-use Rattle.model.proofs.Shares.{has, most-bounded}
+use Rattle.model.proofs.Shares.{has, worst-bounded}
 use Rattle.model.proofs.Bills.{nearer, bill-is, kept, cost, due, due-is, out, due-out}
 use Rattle.model.proofs.Exchange.{exchange, lot-part, lot-part-is}
-use Rattle.model.proofs.Forest.{most-is, below-most}
+use Rattle.model.proofs.Forest.{worst-is, below-worst}
 use Rattle.model.proofs.Reach.{along, reach, parted, one-source, once}
 
 pub numbers-fair : Lawful-tolls numbers
@@ -199,14 +199,14 @@ module _ {A : Type 0} (p : Tolls A) (q : Lawful-tolls p) (g : Yard) (l : Fares A
 
   -- all delays as the roots
   pub delays-le : struck-weight + total numbers (event-count g) (λ e. given numbers (ltb 0 (noted g e)) (burden e)) ≤ all
-  delays-le = roots-le (λ e. ltb 0 (noted g e)) (λ x. Unit {0}) (λ a w h. tt) (λ a w v h. let f = n .fresh a w v in le-ltb 0 (noted g (head g a)) (omega arith)) (λ x h m. let f = most-is g so x in le-ltb 0 (noted g x) (omega arith))
+  delays-le = roots-le (λ e. ltb 0 (noted g e)) (λ x. Unit {0}) (λ a w h. tt) (λ a w v h. let f = n .fresh a w v in le-ltb 0 (noted g (head g a)) (omega arith)) (λ x h m. let f = worst-is g so x in le-ltb 0 (noted g x) (omega arith))
 
   -- a bill is no larger than its burden
   abbrev lots-test : ℕ → ℕ → Bool
   lots-test e i = whole g i && eqb (end g i) e
 
   late-each : (e k : ℕ) → k < lot-count g → lots-test e k ≡ true → p .bulk (l .late k (worst g e)) ≤ u k
-  late-each e k w t = wt .lates k (worst g e) w (most-bounded g p l bound so n q o e)
+  late-each e k w t = wt .lates k (worst g e) w (worst-bounded g p l bound so n q o e)
 
   abbrev miss-test : ℕ → ℕ → Bool
   miss-test a i = whole g i && some (λ b. eqb b a) (path g i)
@@ -329,4 +329,4 @@ module _ {A : Type 0} (p : Tolls A) (q : Lawful-tolls p) (g : Yard) (l : Fares A
     where
       each : (i : ℕ) → i < lot-count g → (b : Bool) → p .bulk (cond b (l .miss i) (l .late i (least g z (end g i)))) ≤ u i
       each i w true = wt .misses i w
-      each i w false = wt .lates i (least g z (end g i)) w (let a = below-most g so z (end g i) in let b = most-bounded g p l bound so n q o (end g i) in omega arith)
+      each i w false = wt .lates i (least g z (end g i)) w (let a = below-worst g so z (end g i) in let b = worst-bounded g p l bound so n q o (end g i) in omega arith)

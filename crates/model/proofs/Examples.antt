@@ -1,6 +1,6 @@
 -- The two yards, by reckoning.
 use mathlib.Core.Path.{_≡_, refl}
-use mathlib.Core.Bool.{Bool, true, false}
+use mathlib.Core.Bool.{false}
 use Prim.Native.Nat.{ℕ, zero, suc, _≤_, _<_}
 use native.Mathlib.Omega.{arith}
 use Rattle.std.proofs.shelf.Tests.{both-ways}
@@ -10,10 +10,9 @@ use Rattle.model.specs.Finite.{top, low, count, some, turns}
 use Rattle.model.specs.Lateness.{least, worst}
 use Rattle.model.specs.Meeting.{sources, meets}
 use Rattle.model.specs.Lots.{lot-count, path, ends}
-use Rattle.model.specs.Tangles.{Tangled-lot, scan, tangled}
+use Rattle.model.specs.Tangles.{scan, tangled}
 use Rattle.model.specs.Tolls.{toll, late-lots, miss-bill, bill, struck-charges, plan-toll, Planned}
 use Rattle.model.specs.Reserves.{tolerance, greatest, reserve}
-use Rattle.model.specs.Laws.{Reported, Clear}
 use Rattle.model.specs.Examples.{mixed-yard, Hypotheses-met, Yard-sheet-worked}
 use Rattle.model.proofs.Tangles.{tangled-decides}
 

@@ -1,19 +1,19 @@
 -- What the late events cost, lot by lot. Late is any test of events.
-use mathlib.Core.Path.{_≡_, refl, sym, ap, ap₂, _∙_, subst}
-use mathlib.Core.Bool.{Bool, true, false, cond, not, _&&_, _||_}
-use Prim.Native.Nat.{ℕ, zero, suc, _-_, _≤_, _<_}
+use mathlib.Core.Path.{_≡_, refl, sym, ap₂, _∙_}
+use mathlib.Core.Bool.{Bool, true, false, not, _&&_}
+use Prim.Native.Nat.{ℕ, _-_, _<_}
 use native.Mathlib.Omega.{arith}
-use lib.Dec.{eqb, ltb, leb}
+use lib.Dec.{eqb}
 use Rattle.std.proofs.shelf.Ways.{tells}
 use Rattle.model.proofs.Ground.{Sound, keen}
 use Rattle.model.specs.Lateness.{worst}
 use Rattle.model.specs.Lots.{end, lot-count, path, whole}
-use Rattle.model.specs.Meeting.{Apart, live}
+use Rattle.model.specs.Meeting.{Apart}
 use Rattle.model.specs.Tolls.{Fares, given, late-lots, miss-bill}
-use Rattle.model.specs.Yard.{Yard, activity-count, event-count, struck, tail}
+use Rattle.model.specs.Yard.{Yard, activity-count, event-count, tail}
 use Rattle.sums.specs.Totals.{total}
 use Rattle.tariff.specs.Tolls.{Lawful-tolls, Tolls}
-use Rattle.model.proofs.Sums.{right, sum-same, sum-plus, sum-swap, sum-at, given-sum, given-plus}
+use Rattle.model.proofs.Sums.{sum-same, sum-plus, sum-swap, sum-at, given-sum, given-plus}
 use Rattle.model.proofs.Shares.{has}
 use Rattle.model.proofs.Bills.{cost}
 

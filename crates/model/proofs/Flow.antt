@@ -1,19 +1,16 @@
 -- In a forest, what each reached event costs comes to what the roots' bills say. No toll is cancelled.
-use mathlib.Core.Path.{_≡_, refl, sym, ap, ap₂, _∙_, subst}
-use mathlib.Core.Bool.{Bool, true, false, cond, _&&_}
-use mathlib.Core.Logic.{_⊎_, inl, inr}
+use mathlib.Core.Path.{_≡_, refl, sym, ap, ap₂, _∙_}
+use mathlib.Core.Bool.{Bool, cond, _&&_}
 use Prim.Native.Nat.{ℕ, zero, suc, _≤_, _<_}
 use native.Mathlib.Omega.{arith}
 use lib.Dec.{eqb, ltb, leb}
-use Rattle.std.proofs.shelf.Tests.{cases-eq, cases-bool, eqb-true, ne-eqb, eq-eqb}
 use Rattle.std.proofs.shelf.Ways.{tells}
-use Rattle.model.proofs.Ground.{le}
 use Rattle.model.specs.Meeting.{sources}
-use Rattle.model.specs.Tolls.{bill, given, toll}
+use Rattle.model.specs.Tolls.{bill, given}
 use Rattle.model.specs.Yard.{head, tail}
 use Rattle.sums.specs.Totals.{total}
 use Rattle.tariff.specs.Tolls.{Lawful-tolls, Tolls}
-use Rattle.model.proofs.Sums.{right, lcomm, cross, sum-same, sum-none, sum-plus, given-sum, given-plus, sum-at}
+use Rattle.model.proofs.Sums.{right, cross, sum-same, sum-none, sum-plus, given-sum, given-plus, sum-at}
 
 module _
     {A : Type 0} {p : Tolls A} (q : Lawful-tolls p)

@@ -1,40 +1,40 @@
 -- Where delays never meet, a least lateness is at each event none or the most.
-use mathlib.Core.Path.{_≡_, refl, sym, ap, _∙_}
-use mathlib.Core.Bool.{Bool, true, false, cond, _&&_}
+use mathlib.Core.Path.{_≡_, sym, ap, _∙_}
+use mathlib.Core.Bool.{true, false, _&&_}
 use mathlib.Core.Logic.{_⊎_, inl, inr}
-use Prim.Native.Nat.{ℕ, zero, suc, _≤_, _<_, max}
+use Prim.Native.Nat.{ℕ, _≤_, _<_, max}
 use native.Mathlib.Omega.{arith}
-use lib.Dec.{eqb, ltb}
-use Rattle.std.proofs.shelf.Tests.{cases-eq, cases-bool, eqb-true, and-parts}
+use lib.Dec.{eqb}
+use Rattle.std.proofs.shelf.Tests.{cases-bool, eqb-true, and-parts}
 use Rattle.std.proofs.shelf.Ways.{tells}
 use Rattle.model.proofs.Ground.{Sound}
 use Rattle.model.specs.Finite.{top}
 use Rattle.model.specs.Lateness.{Choice, Lawful, all-wait, binds, brings, least, worst}
 use Rattle.model.specs.Meeting.{Apart, live}
 use Rattle.model.specs.Yard.{Yard, activity-count, handed, head, noted, tail}
-use Rattle.model.proofs.Tops.{top-le, le-top, top-same, by-below, found}
+use Rattle.model.proofs.Tops.{top-le, le-top, by-below, found}
 use Rattle.model.proofs.Lateness.{least-is, least-lawful, least-least, brought}
 
 module _ (g : Yard) (s : Sound g) where
-  pub most-lawful : Lawful g all-wait (worst g)
+  pub worst-lawful : Lawful g all-wait (worst g)
   unfolding worst
-  most-lawful = least-lawful g s all-wait
+  worst-lawful = least-lawful g s all-wait
 
-  pub most-is : (e : ℕ) → worst g e ≡ max (noted g e) (top (activity-count g) (brings g all-wait (worst g) e))
+  pub worst-is : (e : ℕ) → worst g e ≡ max (noted g e) (top (activity-count g) (brings g all-wait (worst g) e))
   unfolding worst
-  most-is = least-is g s all-wait
+  worst-is = least-is g s all-wait
 
   module _ (z : Choice) where
-    runs-all : (a : ℕ) → binds g z a ≡ true → binds g all-wait a ≡ true
-    runs-all a r = grind (arith, tells)
+    binds-all : (a : ℕ) → binds g z a ≡ true → binds g all-wait a ≡ true
+    binds-all a r = grind (arith, tells)
 
-    pub below-most : (e : ℕ) → least g z e ≤ worst g e
-    below-most = least-least g s z (worst g) (record { own = most-lawful .own; next = λ a w r. most-lawful .next a w (runs-all a r) })
+    pub below-worst : (e : ℕ) → least g z e ≤ worst g e
+    below-worst = least-least g s z (worst g) (record { own = worst-lawful .own; next = λ a w r. worst-lawful .next a w (binds-all a r) })
 
     -- what is not live brings nothing
     pub dead-brings : (e a : ℕ) → live g a ≡ false → brings g z (least g z) e a ≡ 0
     dead-brings e a d =
-        let m = s .mono a (least g z (tail g a)) (worst g (tail g a)) (below-most (tail g a)) in
+        let m = s .mono a (least g z (tail g a)) (worst g (tail g a)) (below-worst (tail g a)) in
         grind (arith, tells)
 
     module _ (n : Apart g) where
@@ -79,13 +79,13 @@ module _ (g : Yard) (s : Sound g) where
     live-binds : (a : ℕ) → live g a ≡ true → binds g all-wait a ≡ true
     live-binds a l = grind (arith, tells)
 
-    pub most-carried : (a : ℕ) → a < activity-count g → live g a ≡ true → worst g (head g a) ≡ handed g a (worst g (tail g a))
+    pub worst-carried : (a : ℕ) → a < activity-count g → live g a ≡ true → worst g (head g a) ≡ handed g a (worst g (tail g a))
     unfolding worst
-    most-carried a w l = carried all-wait n a w l (live-binds a l)
+    worst-carried a w l = carried all-wait n a w l (live-binds a l)
 
-    pub most-own : (e : ℕ) → ((a : ℕ) → a < activity-count g → (eqb (head g a) e && live g a) ≡ false) → worst g e ≡ noted g e
+    pub worst-own : (e : ℕ) → ((a : ℕ) → a < activity-count g → (eqb (head g a) e && live g a) ≡ false) → worst g e ≡ noted g e
     unfolding worst
-    most-own = by-own all-wait n
+    worst-own = by-own all-wait n
 
     -- the least lateness is at each event none, or the worst
     pub two-ways : (z : Choice) (e : ℕ) → (least g z e ≡ 0) ⊎ (least g z e ≡ worst g e)
@@ -94,10 +94,10 @@ module _ (g : Yard) (s : Sound g) where
         run : (e a : ℕ) → a < activity-count g → head g a ≡ e → live g a ≡ true → (binds g z a ≡ true) ⊎ (binds g z a ≡ false) → (least g z (tail g a) ≡ 0) ⊎ (least g z (tail g a) ≡ worst g (tail g a)) → (least g z e ≡ 0) ⊎ (least g z e ≡ worst g e)
         run e a w h l (inr r) t = inl (ap (least g z) (sym h) ∙ zero-below z n a w l (inl r))
         run e a w h l (inl r) (inl t) = inl (ap (least g z) (sym h) ∙ zero-below z n a w l (inr t))
-        run e a w h l (inl r) (inr t) = inr (ap (least g z) (sym h) ∙ carried z n a w l r ∙ ap (handed g a) t ∙ sym (most-carried a w l) ∙ ap (worst g) h)
+        run e a w h l (inl r) (inr t) = inr (ap (least g z) (sym h) ∙ carried z n a w l r ∙ ap (handed g a) t ∙ sym (worst-carried a w l) ∙ ap (worst g) h)
 
         go : (e : ℕ) → ((k : ℕ) → k < e → (least g z k ≡ 0) ⊎ (least g z k ≡ worst g k)) → ((a : ℕ) × (a < activity-count g) × ((eqb (head g a) e && live g a) ≡ true)) ⊎ ((a : ℕ) → a < activity-count g → (eqb (head g a) e && live g a) ≡ false) → (least g z e ≡ 0) ⊎ (least g z e ≡ worst g e)
-        go e below (inr none) = inr (by-own z n e none ∙ sym (most-own e none))
+        go e below (inr none) = inr (by-own z n e none ∙ sym (worst-own e none))
         go e below (inl r) =
             let b = s .before (r .0) (r .1) in
             let p = and-parts (eqb (head g (r .0)) e) (live g (r .0)) (r .2) in

@@ -1,11 +1,10 @@
 -- What the proofs stand on: the order of a sheet's activities and the laws of the rule, and the lots on their ways.
-use mathlib.Core.Path.{_≡_, refl, sym, ap, _∙_}
+use mathlib.Core.Path.{_≡_, ap}
 use mathlib.Core.Bool.{Bool, true, false, cond, _&&_}
 use mathlib.Core.List.{List, [], _∷_, _++_}
 use mathlib.Core.Logic.{_⊎_, inl, inr}
 use Prim.Native.Nat.{ℕ, _≤_, _<_}
 use native.Mathlib.Omega.{arith}
-use lib.Dec.{ltb}
 use Rattle.std.proofs.shelf.Tests.{cases-lt, cases-bool, le-ltb}
 use Rattle.tariff.specs.Tolls.{Tolls, Lawful-tolls}
 use Rattle.model.specs.Yard.{Yard, event-count, activity-count, tail, head, handed, noted, unmarked}

@@ -1,14 +1,11 @@
 -- There is exactly one least lawful lateness for each choice.
-use mathlib.Core.Path.{_≡_, refl, sym, ap, _∙_}
-use mathlib.Core.Bool.{Bool, true, false, cond}
-use mathlib.Core.Logic.{_⊎_, inl, inr}
-use Prim.Native.Nat.{ℕ, zero, suc, _≤_, _<_, max}
+use mathlib.Core.Path.{_≡_, ap}
+use mathlib.Core.Bool.{true}
+use Prim.Native.Nat.{ℕ, _≤_, _<_, max}
 use native.Mathlib.Omega.{arith}
-use lib.Dec.{eqb}
-use Rattle.std.proofs.shelf.Tests.{cases-eq, cases-bool, eqb-true}
 use Rattle.std.proofs.shelf.Ways.{tells}
-use Rattle.model.specs.Yard.{Yard, event-count, activity-count, tail, head, handed, noted, struck, unmarked}
-use Rattle.model.specs.Finite.{top, turns}
+use Rattle.model.specs.Yard.{Yard, activity-count, tail, head, handed, noted}
+use Rattle.model.specs.Finite.{top}
 use Rattle.model.specs.Lateness.{Choice, binds, Lawful, Least, brings, least-step, least}
 use Rattle.model.proofs.Ground.{Sound, own-all}
 use Rattle.model.proofs.Tops.{top-le, le-top, top-same, by-below}

@@ -1,17 +1,15 @@
 -- No event with two sources: the delays are apart, and the other way round; the scan finds the lowest.
-use mathlib.Core.Path.{_≡_, refl, sym, ap, ap₂, _∙_, subst}
-use mathlib.Core.Bool.{Bool, true, false, cond, not, _&&_, _||_}
+use mathlib.Core.Path.{_≡_, refl, sym, ap, _∙_, subst}
+use mathlib.Core.Bool.{Bool, true, false, cond, _&&_}
 use mathlib.Core.Logic.{_⊎_, inl, inr, _↔_}
 use Prim.Native.Nat.{ℕ, zero, suc, _+_, _≤_, _<_}
 use native.Mathlib.Omega.{arith}
-use lib.Dec.{eqb, ltb, leb}
+use lib.Dec.{eqb, ltb}
 use Rattle.std.proofs.shelf.Tests.{cases-eq, cases-bool, cases-lt, eqb-true, eq-eqb, and-parts, and-from, leb-false, lt-leb, lt-ltb, le-ltb, cond-true, cond-false}
 use Rattle.std.proofs.shelf.Ways.{tells}
 use Rattle.model.proofs.Ground.{Sound}
-use Rattle.model.specs.Finite.{Lowest, count, first, low}
-use Rattle.model.specs.Lateness.{worst}
+use Rattle.model.specs.Finite.{Lowest, count, first}
 use Rattle.model.specs.Meeting.{Apart, live, meets, sources}
-use Rattle.model.specs.Tangles.{scan}
 use Rattle.model.specs.Yard.{Yard, activity-count, event-count, head, noted}
 
 -- one that passes counts
@@ -137,6 +135,7 @@ module _ (g : Yard) (so : Sound g) where
 
 -- delays meet nowhere exactly where no event has two sources
 pub meets-nowhere : (g : Yard) → Sound g → ((e : ℕ) → e < event-count g → meets g e ≡ false) ↔ Apart g
-meets-nowhere g so =
-    ( (λ h. apart-from g so (λ e w. leb-false 2 (sources g e) (h e w)))
-    , (λ n e w. lt-leb 2 (sources g e) (apart-to g so n e)) )
+meets-nowhere g so = (
+  (λ h. apart-from g so (λ e w. leb-false 2 (sources g e) (h e w))),
+  (λ n e w. lt-leb 2 (sources g e) (apart-to g so n e)),
+)

@@ -1,28 +1,26 @@
 -- What a well-formed sheet, a lawful rule and lawful prices give the proofs to stand on.
 use mathlib.Core.Path.{_≡_, refl, sym, ap, subst, _∙_}
-use mathlib.Core.Bool.{Bool, true, false, cond, _&&_}
-use mathlib.Core.List.{List, [], _∷_, _++_}
+use mathlib.Core.Bool.{Bool, true, false}
+use mathlib.Core.List.{List, [], _∷_}
 use mathlib.Core.Logic.{_⊎_, inl, inr}
-use Prim.Native.Nat.{ℕ, zero, suc, _+_, _*_, _≤_, _<_}
+use Prim.Native.Nat.{ℕ, zero, suc, _+_, _≤_, _<_}
 use native.Mathlib.Omega.{arith}
-use lib.Dec.{eqb, ltb, leb}
+use lib.Dec.{ltb}
 use lib.ListN.{length, getD, take, drop}
 use Rattle.std.proofs.shelf.Lists.{drop-drop, length-take-le}
-use Rattle.std.proofs.shelf.Tests.{and-parts, ltb-true, leb-true, eqb-true, cases-lt, cases-bool, lt-ltb, le-ltb}
-use Rattle.std.specs.declared.option.Option.{Option}
+use Rattle.std.proofs.shelf.Tests.{and-parts, ltb-true, leb-true, eqb-true, cases-lt, cases-bool}
 use Rattle.std.specs.declared.option.Option.the-variants.{Some, None}
 use Rattle.sheet.specs.declared.records.Event.{Event}
 use Rattle.sheet.specs.declared.records.Activity.{Activity}
 use Rattle.sheet.specs.declared.records.Lot.{Lot}
-use Rattle.sheet.specs.Rules.{Tables, every, activity-at, event-at, no-activity, no-event, no-lot, lot-at, stretch, period-keeps, event-keeps, activity-keeps, lot-keeps, path-keeps, step-keeps, leads-on, come-to, lots-keep, well-formed}
-use Rattle.sheet.proofs.Stretches.{Kept, kept-of, first-of}
+use Rattle.sheet.specs.Rules.{Tables, every, activity-at, no-activity, lot-at, stretch, activity-keeps, path-keeps, step-keeps, lots-keep, well-formed}
+use Rattle.sheet.proofs.Stretches.{kept-of, first-of}
 use Rattle.carry.specs.Laws.{Lawful-rule}
 use Rattle.tariff.specs.Prices.{Prices, Lawful-prices}
 use Rattle.sums.specs.Totals.{lot-weight}
 use Rattle.model.specs.declared.mark.Mark.{Mark}
 use Rattle.model.specs.Yard.{Yard, event-count, activity-count, tail, head, handed, noted}
-use Rattle.model.specs.Finite.{some}
-use Rattle.model.specs.Lots.{lot-count, the-lot, path, ends, begins, start, end}
+use Rattle.model.specs.Lots.{lot-count, path, ends, begins, start, end}
 use Rattle.model.specs.Tolls.{fares-of}
 use Rattle.model.specs.Tangles.{Tangled-lot, tangled}
 use Rattle.model.specs.Laws.{yard, Reported, Clear}
@@ -37,7 +35,7 @@ every-at test (x ∷ xs) h zero d k = and-parts (test x) (every test xs) h .0
 every-at test (x ∷ xs) h (suc i) d k = every-at test xs (and-parts (test x) (every test xs) h .1) i d (omega arith)
 
 -- the rule of an activity, in parts
-activity-parts : (events : List Event) (a : Activity) → activity-keeps events a ≡ true → (a .tail < a .head) × (a .head < length events)
+pub activity-parts : (events : List Event) (a : Activity) → activity-keeps events a ≡ true → (a .tail < a .head) × (a .head < length events)
 activity-parts events a h =
     let x = and-parts _ _ h in
     let y = and-parts _ _ (x .1) in
@@ -66,7 +64,7 @@ pub record Way (t : Tables) (i : ℕ) : Type 0 where
   pub some-steps : 1 ≤ length (stretch (lot-at (t .lots) i) (t .steps))
 
 way-in : (activities : List Activity) (first : ℕ) (ls : List Lot) (left steps : List ℕ) → lots-keep activities first ls left ≡ true → drop first steps ≡ left → (i : ℕ) → i < length ls
-  → (path-keeps activities None (stretch (lot-at ls i) steps) ≡ true) × (1 ≤ length (stretch (lot-at ls i) steps))
+    → (path-keeps activities None (stretch (lot-at ls i) steps) ≡ true) × (1 ≤ length (stretch (lot-at ls i) steps))
 way-in activities first [] left steps h d i k = absurd (omega arith)
 way-in activities first (l ∷ ls) left steps h d zero k =
     let f = first-of activities first l ls left h in
@@ -110,7 +108,7 @@ module _ (g : Yard) where
   end-within so (a ∷ s) n c = ends-within so (tail g a) a s c
 
 module _ {A : Type 0} (t : Tables) (rule : ℕ → ℕ → ℕ) (delay : ℕ → ℕ) (mark : ℕ → Mark) (p : Prices A) (w : well-formed t ≡ true) (lawful : Lawful-rule rule) (fair : Lawful-prices p)
-  (reported : Reported (yard t rule delay mark)) where
+    (reported : Reported (yard t rule delay mark)) where
   pub noted-most : (e : ℕ) → noted (yard t rule delay mark) e ≤ t .period
   noted-most e = go (cases-lt e (event-count (yard t rule delay mark)))
     where

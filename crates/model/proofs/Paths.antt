@@ -1,20 +1,20 @@
 -- Tests along a path, and what a cut leaves after it.
-use mathlib.Core.Path.{_≡_, refl, sym, ap, ap₂, _∙_, subst}
-use mathlib.Core.Bool.{Bool, true, false, cond, not, _&&_, _||_}
+use mathlib.Core.Path.{_≡_, refl, ap, _∙_}
+use mathlib.Core.Bool.{Bool, true, false, not, _&&_, _||_}
 use mathlib.Core.List.{List, [], _∷_, _++_}
 use mathlib.Core.Logic.{_⊎_, inl, inr}
-use Prim.Native.Nat.{ℕ, zero, suc, _≤_, _<_}
+use Prim.Native.Nat.{ℕ, _<_}
 use native.Mathlib.Omega.{arith}
-use lib.Dec.{eqb, ltb, leb}
-use Rattle.std.proofs.shelf.Tests.{cases-eq, cases-bool, eqb-true, ne-eqb, eq-eqb, or-parts, or-from, and-left}
+use lib.Dec.{eqb, ltb}
+use Rattle.std.proofs.shelf.Tests.{cases-bool, ne-eqb, or-parts, or-from, and-left}
 use Rattle.std.proofs.shelf.Ways.{tells}
 use Rattle.model.proofs.Ground.{Chain, Sound, keen}
-use Rattle.model.specs.Finite.{first, some}
-use Rattle.model.specs.Lateness.{Choice, binds, least, worst}
-use Rattle.model.specs.Lots.{end, ends, path}
+use Rattle.model.specs.Finite.{some}
+use Rattle.model.specs.Lateness.{Choice, least, worst}
+use Rattle.model.specs.Lots.{ends}
 use Rattle.model.specs.Meeting.{Apart, live}
-use Rattle.model.specs.Yard.{Yard, activity-count, head, tail, transfer, unmarked}
-use Rattle.model.proofs.Forest.{zero-below, below-most}
+use Rattle.model.specs.Yard.{Yard, activity-count, head, tail, unmarked}
+use Rattle.model.proofs.Forest.{zero-below, below-worst}
 
 -- a test passes nowhere where one that it implies passes nowhere
 pub some-less : (t u : ℕ → Bool) (s : List ℕ) → ((a : ℕ) → u a ≡ false → t a ≡ false) → some u s ≡ false → some t s ≡ false
@@ -107,5 +107,5 @@ module _ (g : Yard) where
         go (inr l) r =
             let k = h [] s b refl l in
             let f : cut b ≡ false = cut-keen b (and-left (live g b) (unmarked g b) l) in
-            let m = below-most g so z (ends g (head g b) s) in
+            let m = below-worst g so z (ends g (head g b) s) in
             (or-from (cut b) (some cut s) f (some-less cut (keen g) s cut-keen (k .0)), omega arith)

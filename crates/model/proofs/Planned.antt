@@ -1,15 +1,15 @@
 -- There is a plan.
-use mathlib.Core.Path.{_≡_, refl, sym, ap, ap₂, _∙_}
-use mathlib.Core.Bool.{Bool, true, false, cond, not, _&&_}
-use Prim.Native.Nat.{ℕ, zero, suc, _≤_, _<_, max}
+use mathlib.Core.Path.{_≡_, sym, ap, _∙_}
+use mathlib.Core.Bool.{Bool, not, _&&_}
+use Prim.Native.Nat.{ℕ, max}
 use native.Mathlib.Omega.{arith}
-use lib.Dec.{eqb, ltb, leb}
+use lib.Dec.{ltb}
 use Rattle.std.proofs.shelf.Ways.{tells}
-use Rattle.model.proofs.Ground.{Sound, keen}
-use Rattle.model.specs.Lateness.{binds, brings, least}
+use Rattle.model.proofs.Ground.{Sound}
+use Rattle.model.specs.Lateness.{brings, least}
 use Rattle.model.specs.Meeting.{live}
 use Rattle.model.specs.Tolls.{Fares, Planned, bill, miss-bill}
-use Rattle.model.specs.Yard.{Yard, activity-count, handed, head, noted, tail, transfer}
+use Rattle.model.specs.Yard.{Yard, activity-count, handed, head, noted, tail}
 use Rattle.tariff.specs.Tolls.{Tolls}
 use Rattle.model.proofs.Tops.{top-same, by-below}
 use Rattle.model.proofs.Lateness.{least-is}

@@ -5,22 +5,22 @@ use mathlib.Core.List.{List, [], _∷_, _++_}
 use mathlib.Core.Logic.{_⊎_, inl, inr}
 use Prim.Native.Nat.{ℕ, zero, suc, _+_, _≤_, _<_}
 use native.Mathlib.Omega.{arith}
-use lib.Dec.{eqb, ltb, leb}
+use lib.Dec.{eqb}
 use Rattle.std.specs.Orderings.{Decides}
-use Rattle.std.proofs.shelf.Tests.{cases-eq, cases-bool, eqb-true, eq-eqb, ne-eqb, and-parts, and-from, and-left, and-right, or-parts, or-from, or-cases, or-left, or-right, both-ways, cond-true, cond-false, not-true}
+use Rattle.std.proofs.shelf.Tests.{cases-bool, eqb-true, and-parts, and-left, and-right, or-parts, or-cases, or-right, both-ways, cond-true, cond-false, not-true}
 use Rattle.std.proofs.shelf.Ways.{tells, decides-below-or}
 use Rattle.model.proofs.Ground.{Chain, Sound, keen}
 use Rattle.model.specs.Finite.{some, turns}
 use Rattle.model.specs.Lateness.{all-wait, binds, worst}
-use Rattle.model.specs.Lots.{end, ends, gone, path}
+use Rattle.model.specs.Lots.{ends, gone}
 use Rattle.model.specs.Meeting.{Apart, live}
 use Rattle.model.specs.Tolls.{given}
-use Rattle.model.specs.Yard.{Yard, activity-count, handed, head, struck, tail, transfer, unmarked}
+use Rattle.model.specs.Yard.{Yard, activity-count, handed, head, struck, tail, unmarked}
 use Rattle.sums.specs.Totals.{total}
 use Rattle.tariff.specs.Tolls.{Lawful-tolls, Tolls}
 use Rattle.model.proofs.Tops.{by-below, found}
 use Rattle.model.proofs.Turns.{turns-is}
-use Rattle.model.proofs.Forest.{most-lawful}
+use Rattle.model.proofs.Forest.{worst-lawful}
 use Rattle.model.proofs.Sums.{right, sum-none, sum-one}
 use Rattle.model.proofs.Paths.{some-less}
 
@@ -183,7 +183,7 @@ module _ (g : Yard) (so : Sound g) (n : Apart g) (z root : ℕ → Bool) where
         where
           live-late : (a : ℕ) → a < activity-count g → live g a ≡ true → 0 < worst g (head g a)
           live-late a w l =
-              let k : binds g all-wait a ≡ true → handed g a (worst g (tail g a)) ≤ worst g (head g a) = most-lawful g so .next a w in
+              let k : binds g all-wait a ≡ true → handed g a (worst g (tail g a)) ≤ worst g (head g a) = worst-lawful g so .next a w in
               grind (arith, tells)
 
           from : (root x ≡ true) ⊎ ((b : ℕ) × (b < activity-count g) × (by reach x b ≡ true)) → ⊥

@@ -1,19 +1,19 @@
 -- The reserve theorem.
-use mathlib.Core.Path.{_≡_, refl, sym, ap, ap₂, _∙_, subst}
-use mathlib.Core.Bool.{Bool, true, false, cond, not, _&&_}
+use mathlib.Core.Path.{_≡_, refl, sym, ap, ap₂}
+use mathlib.Core.Bool.{true, false, cond, not, _&&_}
 use mathlib.Core.Logic.{_⊎_, inl, inr, _↔_}
 use Prim.Native.Nat.{ℕ, zero, suc, _-_, _≤_, _<_, min}
 use native.Mathlib.Omega.{arith}
-use lib.Dec.{eqb, ltb, leb}
-use Rattle.std.proofs.shelf.Tests.{cases-eq, cases-bool, eqb-true, eq-eqb, leb-true, leb-false}
+use lib.Dec.{eqb, leb}
+use Rattle.std.proofs.shelf.Tests.{cases-eq, cases-bool, eqb-true, leb-true, leb-false}
 use Rattle.std.proofs.shelf.Ways.{tells}
 use Rattle.model.proofs.Ground.{Sound, own-all}
-use Rattle.model.specs.Finite.{low, turns}
-use Rattle.model.specs.Lateness.{Lawful, all-wait, binds, least, worst}
+use Rattle.model.specs.Finite.{low}
+use Rattle.model.specs.Lateness.{Lawful, all-wait, binds, worst}
 use Rattle.model.specs.Reserves.{greatest, reserve, reserve-step, tolerance}
 use Rattle.model.specs.Yard.{Yard, activity-count, event-count, handed, head, noted, struck, tail}
-use Rattle.model.proofs.Lateness.{least-least, least-lawful}
-use Rattle.model.proofs.Forest.{most-lawful}
+use Rattle.model.proofs.Lateness.{least-least}
+use Rattle.model.proofs.Forest.{worst-lawful}
 use Rattle.model.proofs.Turns.{turns-is}
 use Rattle.model.proofs.Bills.{nearer}
 
@@ -42,19 +42,19 @@ low-same zero f h x s = refl
 low-same (suc n) f h x s = ap₂ min (low-same n f h x (λ i k. s i (omega arith))) (s n (omega arith))
 
 module _ (f : ℕ → ℕ) (still : f 0 ≡ 0) (r : ℕ) where
-  pub room-fits : (k : ℕ) → f (greatest f r k) ≤ r
+  pub greatest-fits : (k : ℕ) → f (greatest f r k) ≤ r
   unfolding greatest
-  room-fits zero = omega arith
-  room-fits (suc k) = go (cases-bool (leb (f (suc k)) r)) (room-fits k)
+  greatest-fits zero = omega arith
+  greatest-fits (suc k) = go (cases-bool (leb (f (suc k)) r)) (greatest-fits k)
     where
       go : (leb (f (suc k)) r ≡ true) ⊎ (leb (f (suc k)) r ≡ false) → f (greatest f r k) ≤ r → f (cond (leb (f (suc k)) r) (suc k) (greatest f r k)) ≤ r
       go (inl t) h = rw t (leb-true (f (suc k)) r t)
       go (inr t) h = rw t h
 
-  pub room-most : (k l : ℕ) → l ≤ k → f l ≤ r → l ≤ greatest f r k
+  pub greatest-most : (k l : ℕ) → l ≤ k → f l ≤ r → l ≤ greatest f r k
   unfolding greatest
-  room-most zero l h s = h
-  room-most (suc k) l h s = go (cases-bool (leb (f (suc k)) r)) (cases-eq l (suc k)) (λ j. room-most k l j s)
+  greatest-most zero l h s = h
+  greatest-most (suc k) l h s = go (cases-bool (leb (f (suc k)) r)) (cases-eq l (suc k)) (λ j. greatest-most k l j s)
     where
       go : (leb (f (suc k)) r ≡ true) ⊎ (leb (f (suc k)) r ≡ false) → (l ≡ suc k) ⊎ (l ≡ suc k → ⊥) → (l ≤ k → l ≤ greatest f r k) → l ≤ cond (leb (f (suc k)) r) (suc k) (greatest f r k)
       go (inl t) e v = rw t h
@@ -82,9 +82,9 @@ module _ (g : Yard) (so : Sound g) where
       omega arith
 
 module _ (g : Yard) (so : Sound g) (small : (e : ℕ) → noted g e ≤ 1440) where
-  most-capped : (e : ℕ) → worst g e ≤ 1440
+  worst-capped : (e : ℕ) → worst g e ≤ 1440
   unfolding worst
-  most-capped = least-least g so all-wait (λ e. 1440) (record { own = λ e w. small e; next = λ a w r. so .under a 1440 })
+  worst-capped = least-least g so all-wait (λ e. 1440) (record { own = λ e w. small e; next = λ a w r. so .under a 1440 })
 
   -- the reserve is itself a lawful lateness, once it covers the delays
   covers : ((e : ℕ) → noted g e ≤ reserve g e) → Lawful g all-wait (reserve g)
@@ -95,7 +95,7 @@ module _ (g : Yard) (so : Sound g) (small : (e : ℕ) → noted g e ≤ 1440) wh
           let is = reserve-is g so (tail g a) in
           let t = low-le (activity-count g) (λ b. cond (eqb (tail g b) (tail g a) && not (struck g b)) (greatest (handed g b) (reserve g (head g b)) 1440) (tolerance g (tail g a))) (tolerance g (tail g a)) a w in
           let c : cond (eqb (tail g a) (tail g a) && not (struck g a)) (greatest (handed g a) (reserve g (head g a)) 1440) (tolerance g (tail g a)) ≡ greatest (handed g a) (reserve g (head g a)) 1440 = grind (arith, tells) in
-          let f = room-fits (handed g a) (so .still a) (reserve g (head g a)) 1440 in
+          let f = greatest-fits (handed g a) (so .still a) (reserve g (head g a)) 1440 in
           let m = so .mono a (reserve g (tail g a)) (greatest (handed g a) (reserve g (head g a)) 1440) (omega arith) in
           omega arith
 
@@ -114,14 +114,15 @@ module _ (g : Yard) (so : Sound g) (small : (e : ℕ) → noted g e ≤ 1440) wh
           let e′ = eqb-true (tail g a) e t in
           let j = nearer g so a e w e′ in
           let r : binds g all-wait a ≡ true = grind (arith, tells) in
-          let m = most-lawful g so .next a w r in
+          let m = worst-lawful g so .next a w r in
           let d : handed g a (worst g e) ≡ handed g a (worst g (tail g a)) = ap (λ x. handed g a (worst g x)) (sym e′) in
           let i = v (omega arith) in
-          rw (t, u) (room-most (handed g a) (so .still a) (reserve g (head g a)) 1440 (worst g e) (most-capped e) (omega arith))
+          rw (t, u) (greatest-most (handed g a) (so .still a) (reserve g (head g a)) 1440 (worst g e) (worst-capped e) (omega arith))
 
 -- within tolerance exactly where within reserve
 pub within-both : (g : Yard) → Sound g → ((e : ℕ) → noted g e ≤ 1440) → ((e : ℕ) → worst g e ≤ tolerance g e) ↔ ((e : ℕ) → noted g e ≤ reserve g e)
 unfolding worst
 within-both g so small = (
-  λ h e. let m = own-all (most-lawful g so) e in let r = within-reserve g so small h (suc (event-count g - e)) e (omega arith) in omega arith,
-  λ h e. let m = least-least g so all-wait (reserve g) (covers g so small h) e in let r = reserve-tolerance g so e in omega arith)
+  λ h e. let m = own-all (worst-lawful g so) e in let r = within-reserve g so small h (suc (event-count g - e)) e (omega arith) in omega arith,
+  λ h e. let m = least-least g so all-wait (reserve g) (covers g so small h) e in let r = reserve-tolerance g so e in omega arith,
+)

@@ -1,12 +1,12 @@
 -- What one lot pays, by lateness at its end and by cuts on its path.
 use mathlib.Core.Path.{_≡_, refl, sym, ap, ap₂, _∙_, subst}
 use mathlib.Core.Bool.{Bool, true, false, cond, not, _&&_, _||_}
-use mathlib.Core.List.{List, [], _∷_, _++_}
+use mathlib.Core.List.{List, _∷_, _++_}
 use mathlib.Core.Logic.{_⊎_, inl, inr}
-use Prim.Native.Nat.{ℕ, zero, suc, _≤_, _<_}
+use Prim.Native.Nat.{ℕ, _≤_, _<_}
 use native.Mathlib.Omega.{arith}
-use lib.Dec.{eqb, ltb, leb}
-use Rattle.std.proofs.shelf.Tests.{cases-eq, cases-bool, eqb-true, ne-eqb, eq-eqb, or-parts, or-from, or-left, or-right, and-left, and-right, and-parts, cond-true, cond-false, not-true, not-false, le-ltb, lt-ltb, ltb-true}
+use lib.Dec.{eqb, ltb}
+use Rattle.std.proofs.shelf.Tests.{cases-bool, ne-eqb, eq-eqb, or-from, or-left, or-right, and-left, and-right, and-parts, cond-true, cond-false, not-true, not-false, le-ltb}
 use Rattle.std.proofs.shelf.Ways.{tells}
 use Rattle.model.proofs.Ground.{Chain, Orderly, Sound, keen, le, self}
 use Rattle.model.specs.Finite.{some}
@@ -18,7 +18,7 @@ use Rattle.model.specs.Yard.{Yard, activity-count, head, struck, tail, unmarke
 use Rattle.sums.specs.Totals.{total}
 use Rattle.tariff.specs.Tolls.{Lawful-tolls, Tolls}
 use Rattle.model.proofs.Lateness.{least-least}
-use Rattle.model.proofs.Forest.{zero-below, below-most, two-ways}
+use Rattle.model.proofs.Forest.{zero-below, below-worst, two-ways}
 use Rattle.model.proofs.Sums.{right, sum-none, sum-one}
 use Rattle.model.proofs.Paths.{some-less, some-on, not-there, some-append, Split, split, ends-append, chain-after, cut, after-cut}
 
@@ -36,9 +36,9 @@ has-not t u w a i h k j ne =
     ∙ or-from (has i u) (eqb a i || has i w) (not-there t i u h j) (or-from (eqb a i) (has i w) (ne-eqb a i (λ e. ne (sym e))) (not-there t i w k j))
 
 module _ (g : Yard) {A : Type 0} (p : Tolls A) (l : Fares A) (bound : ℕ) (so : Sound g) (n : Apart g) (q : Lawful-tolls p) (o : Orderly g p l bound) where
-  pub most-bounded : (e : ℕ) → worst g e ≤ bound
+  pub worst-bounded : (e : ℕ) → worst g e ≤ bound
   unfolding worst
-  most-bounded = least-least g so all-wait (λ e. bound) (record { own = λ e w. o .bounded e; next = λ a w r. so .under a bound })
+  worst-bounded = least-least g so all-wait (λ e. bound) (record { own = λ e w. o .bounded e; next = λ a w r. so .under a bound })
 
   module _ (z : Choice) where
     abbrev cuts : ℕ → A
@@ -151,7 +151,7 @@ module _ (g : Yard) {A : Type 0} (p : Tolls A) (l : Fares A) (bound : ℕ) (so :
         go (inl wh) (inr c) u = same (cut-share i w wh c) (cut-pay i w wh c y)
         go (inl wh) (inl h) (inl r) =
             between (plain-share i w wh h) (cond-true _ _ _ r)
-            (o .covers i (least g z (end g i)) w (let a = below-most g so z (end g i) in let b = most-bounded (end g i) in omega arith))
+            (o .covers i (least g z (end g i)) w (let a = below-worst g so z (end g i) in let b = worst-bounded (end g i) in omega arith))
         go (inl wh) (inl h) (inr r) =
             between (plain-share i w wh h) (cond-false _ _ _ r)
             (o .dearer i (least g z (end g i)) (y (end g i)) w (least-least g so z y ly (end g i)))

@@ -1,32 +1,28 @@
 -- The laws, from the proofs over yards.
-use mathlib.Core.Path.{_≡_, refl, sym, ap, subst, _∙_}
+use mathlib.Core.Path.{_≡_, refl, sym, subst, _∙_}
 use mathlib.Core.Bool.{Bool, true, false, cond}
 use mathlib.Core.Logic.{_⊎_, inl, inr, _↔_}
-use Prim.Native.Nat.{ℕ, suc, _-_, _*_, _≤_, _<_}
+use Prim.Native.Nat.{ℕ, _-_, _*_, _≤_, _<_}
 use native.Mathlib.Omega.{arith}
 use lib.Dec.{eqb, ltb}
 use lib.ListN.{length}
-use Rattle.std.proofs.shelf.Tests.{and-parts, leb-true, cases-lt, cases-eq, eq-eqb, ne-eqb, lt-ltb, cond-true, cond-false}
+use Rattle.std.proofs.shelf.Tests.{leb-true, cases-lt, cases-eq, eq-eqb, ne-eqb, lt-ltb, cond-true, cond-false}
 use Rattle.sheet.specs.Rules.{Tables, event-at, no-event, event-keeps, well-formed}
 use Rattle.sheet.proofs.Stretches.{kept-of}
 use Rattle.carry.specs.Laws.{Lawful-rule}
 use Rattle.carry.specs.Handed.{deducted}
-use Rattle.tariff.specs.Tolls.{numbers}
 use Rattle.tariff.specs.Prices.{Prices, Lawful-prices}
-use Rattle.tariff.specs.Minutes.{by-minutes}
-use Rattle.sums.specs.Totals.{total, lots-weight}
 use Rattle.model.specs.declared.mark.Mark.{Mark}
-use Rattle.model.specs.Yard.{Yard, event-count, activity-count, tail, head, handed, noted, struck, unmarked, transfer}
-use Rattle.model.specs.Finite.{low, turns}
-use Rattle.model.specs.Lateness.{Choice, binds, Lawful, Least, brings, all-wait, least, worst}
+use Rattle.model.specs.Yard.{Yard, event-count, activity-count, tail, head, handed, noted, struck, transfer}
+use Rattle.model.specs.Lateness.{brings, all-wait, least, worst}
 use Rattle.model.specs.Lots.{lot-count, the-lot, end, missed}
-use Rattle.model.specs.Tolls.{fares-of, toll, bill, plan-toll, Planned}
-use Rattle.model.specs.Reserves.{tolerance, reserve, reserve-step}
-use Rattle.model.specs.Laws.{yard, alone, Reported, Clear, One-least, Margins-kept, Lawful-by-deduct, A-choice, No-rival-cheaper, Toll-by-bills, Light-bills, Minutes-toll, Within-reserves, Reserve-alone}
+use Rattle.model.specs.Tolls.{fares-of, toll}
+use Rattle.model.specs.Reserves.{tolerance, reserve}
+use Rattle.model.specs.Laws.{yard, alone, One-least, Lawful-by-deduct, A-choice, No-rival-cheaper, Toll-by-bills, Light-bills, Minutes-toll, Within-reserves, Reserve-alone}
 use Rattle.model.proofs.Ground.{Sound, noted-past, own-all}
 use Rattle.model.proofs.Lateness.{least-one}
 use Rattle.model.proofs.Tops.{top-le}
-use Rattle.model.proofs.Forest.{most-lawful, most-is}
+use Rattle.model.proofs.Forest.{worst-lawful, worst-is}
 use Rattle.model.proofs.Sums.{sum-same}
 use Rattle.model.proofs.Meets.{meets-nowhere}
 use Rattle.model.proofs.Whole.{cheapest}
@@ -42,9 +38,10 @@ one-least rule lawful t delay mark w z =
 
 pub lawful-by-deduct : Lawful-by-deduct
 unfolding handed
-lawful-by-deduct t delay mark z y =
-    ( (λ l. (l .own, λ a h b. let n = l .next a h b in omega arith))
-    , (λ m. record { own = m .0; next = λ a h b. let n = m .1 a h b in omega arith }) )
+lawful-by-deduct t delay mark z y = (
+  (λ l. (l .own, λ a h b. let n = l .next a h b in omega arith)),
+  (λ m. record { own = m .0; next = λ a h b. let n = m .1 a h b in omega arith }),
+)
 
 pub a-choice : {A : Type 0} (rule : ℕ → ℕ → ℕ) (p : Prices A) → Lawful-rule rule → A-choice rule p
 a-choice rule p lawful t delay mark w =
@@ -106,7 +103,7 @@ module _ (t : Tables) (rule : ℕ → ℕ → ℕ) (delay : ℕ → ℕ) (mark :
   worst-past e h =
       let g = yard t rule delay mark in
       let so = sound t rule delay mark w lawful in
-      let i = most-is g so e in
+      let i = worst-is g so e in
       let n = noted-past g e h in
       let u = top-le (activity-count g) (brings g all-wait (worst g) e) 0 (λ a v. elsewhere a v) in
       omega arith
@@ -127,10 +124,11 @@ module _ (t : Tables) (rule : ℕ → ℕ → ℕ) (delay : ℕ → ℕ) (mark :
       go (inr v) = let z = past e v in omega arith
 
   pub within-reserves-at : ((e : ℕ) → e < event-count (yard t rule delay mark) → worst (yard t rule delay mark) e ≤ tolerance (yard t rule delay mark) e)
-    ↔ ((e : ℕ) → e < event-count (yard t rule delay mark) → noted (yard t rule delay mark) e ≤ reserve (yard t rule delay mark) e)
-  within-reserves-at =
-      ( (λ h e v. within-both g so (small-by h) .0 (all-numbers (worst g) (tolerance g) worst-past h) e)
-      , (λ h e v. within-both g so (small-from h) .1 (all-numbers (noted g) (reserve g) (noted-past g) h) e) )
+      ↔ ((e : ℕ) → e < event-count (yard t rule delay mark) → noted (yard t rule delay mark) e ≤ reserve (yard t rule delay mark) e)
+  within-reserves-at = (
+    (λ h e v. within-both g so (small-by h) .0 (all-numbers (worst g) (tolerance g) worst-past h) e),
+    (λ h e v. within-both g so (small-from h) .1 (all-numbers (noted g) (reserve g) (noted-past g) h) e),
+  )
     where
       g : Yard
       g = yard t rule delay mark
@@ -139,7 +137,7 @@ module _ (t : Tables) (rule : ℕ → ℕ → ℕ) (delay : ℕ → ℕ) (mark :
       so = sound t rule delay mark w lawful
 
       small-by : ((e : ℕ) → e < event-count g → worst g e ≤ tolerance g e) → (e : ℕ) → noted g e ≤ 1440
-      small-by h = all-numbers (noted g) (λ e. 1440) (noted-past g) (λ e v. let a = own-all (most-lawful g so) e in let b = h e v in let c = tolerant e v in omega arith)
+      small-by h = all-numbers (noted g) (λ e. 1440) (noted-past g) (λ e v. let a = own-all (worst-lawful g so) e in let b = h e v in let c = tolerant e v in omega arith)
 
       small-from : ((e : ℕ) → e < event-count g → noted g e ≤ reserve g e) → (e : ℕ) → noted g e ≤ 1440
       small-from h = all-numbers (noted g) (λ e. 1440) (noted-past g) (λ e v. let a = reserve-tolerance g so e in let b = h e v in let c = tolerant e v in omega arith)
@@ -150,9 +148,10 @@ within-reserves rule lawful t delay mark w = within-reserves-at t rule delay mar
 pub reserve-alone : (rule : ℕ → ℕ → ℕ) → Lawful-rule rule → Reserve-alone rule
 unfolding noted event-count reserve activity-count tail head handed struck tolerance transfer
 reserve-alone rule lawful t delay mark w event minutes h =
-    let b = within-reserves-at t rule (alone event minutes) mark w lawful in
-    ( (λ k. let r = b .0 k event h in let z = at-event in omega arith)
-    , (λ k. b .1 (λ e v. each e v (cases-eq e event) k)) )
+    let b = within-reserves-at t rule (alone event minutes) mark w lawful in (
+      (λ k. let r = b .0 k event h in let z = at-event in omega arith),
+      (λ k. b .1 (λ e v. each e v (cases-eq e event) k)),
+    )
   where
     at-event : noted (yard t rule (alone event minutes) mark) event ≡ minutes
     at-event = cond-true (ltb event (length (t .events))) (alone event minutes event) 0 (lt-ltb event (length (t .events)) h) ∙ cond-true (eqb event event) minutes 0 (eq-eqb event event refl)

@@ -1,12 +1,11 @@
 -- Finite sums of tolls.
-use mathlib.Core.Path.{_≡_, refl, sym, ap, _∙_, subst}
-use mathlib.Core.Bool.{Bool, true, false, cond, _&&_}
+use mathlib.Core.Path.{_≡_, refl, sym, ap, _∙_}
+use mathlib.Core.Bool.{Bool, true, false}
 use mathlib.Core.Logic.{_⊎_, inl, inr}
-use Prim.Native.Nat.{ℕ, zero, suc, _≤_, _<_}
+use Prim.Native.Nat.{ℕ, zero, suc, _<_}
 use native.Mathlib.Omega.{arith}
-use lib.Dec.{eqb, ltb}
-use Rattle.std.proofs.shelf.Tests.{cases-eq, cases-bool, eqb-true, ne-eqb, eq-eqb}
-use Rattle.std.proofs.shelf.Ways.{tells}
+use lib.Dec.{eqb}
+use Rattle.std.proofs.shelf.Tests.{cases-eq, ne-eqb, eq-eqb}
 use Rattle.model.proofs.Ground.{le, self}
 use Rattle.model.specs.Tolls.{given}
 use Rattle.sums.specs.Totals.{total}

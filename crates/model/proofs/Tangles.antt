@@ -1,13 +1,13 @@
 -- The scan says exactly where a lot is tangled.
-use mathlib.Core.Path.{_≡_, refl, sym, ap, ap₂, _∙_, subst}
-use mathlib.Core.Bool.{Bool, true, false, cond, not, _&&_, _||_}
+use mathlib.Core.Path.{_≡_, refl, sym, ap, _∙_}
+use mathlib.Core.Bool.{Bool, true, false, not, _&&_, _||_}
 use mathlib.Core.List.{List, [], _∷_, _++_}
 use mathlib.Core.Logic.{_⊎_, inl, inr}
-use Prim.Native.Nat.{ℕ, zero, suc, _≤_, _<_}
+use Prim.Native.Nat.{ℕ}
 use native.Mathlib.Omega.{arith}
-use lib.Dec.{eqb, ltb, leb}
+use lib.Dec.{ltb}
 use Rattle.std.specs.Orderings.{Decides}
-use Rattle.std.proofs.shelf.Tests.{cases-bool, and-parts, and-from, or-parts, or-cases, or-left, or-right, or-from, and-left, not-true, not-from-false, both-ways, le-ltb}
+use Rattle.std.proofs.shelf.Tests.{cases-bool, and-parts, and-from, or-parts, or-cases, or-left, or-right, not-true, not-from-false, both-ways}
 use Rattle.std.proofs.shelf.Ways.{tells, decides-and}
 use Rattle.model.proofs.Ground.{keen}
 use Rattle.model.specs.Finite.{some}
@@ -16,8 +16,7 @@ use Rattle.model.specs.Lots.{end, path, whole}
 use Rattle.model.specs.Meeting.{live}
 use Rattle.model.specs.Tangles.{Tangled, Tangled-lot, hot, late-end, scan, tangled}
 use Rattle.model.specs.Yard.{Yard, transfer, unmarked, is-unmarked}
-use Rattle.model.proofs.Paths.{some-less, some-append}
-use Rattle.model.proofs.Shares.{some-mid}
+use Rattle.model.proofs.Paths.{some-less}
 
 module _ (hot on : ℕ → Bool) (late : Bool) where
   abbrev then : List ℕ → Bool
@@ -131,6 +130,6 @@ tangled-decides g i =
     ((λ h. let t = d .0 h in record { no-strike = t .0; way = t .1 }), (λ t. d .1 (t .no-strike, t .way)))
 
 pub untangled-lot : (g : Yard) (i : ℕ) → tangled g i ≡ false → whole g i ≡ true → (u v w : List ℕ) (a b : ℕ) → path g i ≡ u ++ (a ∷ (v ++ (b ∷ w))) → keen g a ≡ true → live g b ≡ false
-  → (some (keen g) w ≡ false) × (worst g (end g i) ≡ 0)
+    → (some (keen g) w ≡ false) × (worst g (end g i) ≡ 0)
 unfolding tangled
 untangled-lot g i h wh = untangled-from g (end g i) (path g i) (sym (ap (λ (b : Bool). b && scan (hot g) (live g) (late-end g i) false false false (path g i)) wh) ∙ h)

@@ -1,26 +1,24 @@
 -- The plan is cheapest.
-use mathlib.Core.Path.{_≡_, refl, sym, ap, ap₂, _∙_, subst}
-use mathlib.Core.Bool.{Bool, true, false, cond, not, _&&_, _||_}
-use mathlib.Core.List.{List, [], _∷_, _++_}
+use mathlib.Core.Path.{_≡_, sym, ap, _∙_}
+use mathlib.Core.Bool.{Bool, true, false, cond, not}
 use mathlib.Core.Logic.{_⊎_, inl, inr}
-use Prim.Native.Nat.{ℕ, zero, suc, _-_, _≤_, _<_}
+use Prim.Native.Nat.{ℕ, suc, _-_}
 use native.Mathlib.Omega.{arith}
-use lib.Dec.{eqb, ltb, leb}
-use Rattle.std.proofs.shelf.Tests.{cases-bool, eqb-true, le-ltb, lt-ltb, ltb-true}
-use Rattle.std.proofs.shelf.Ways.{tells}
-use Rattle.model.proofs.Ground.{Orderly, Sound, keen, le, self}
-use Rattle.model.specs.Finite.{low, some}
-use Rattle.model.specs.Lateness.{Choice, Lawful, all-wait, binds, least, worst}
-use Rattle.model.specs.Lots.{end, lot-count, whole}
-use Rattle.model.specs.Meeting.{Apart, live}
-use Rattle.model.specs.Tolls.{Fares, Planned, bill, bill-step, branch, given, late-lots, miss-bill, pay, plan-toll, struck-charges, toll}
-use Rattle.model.specs.Yard.{Yard, event-count, noted, struck, transfer}
+use lib.Dec.{ltb}
+use Rattle.std.proofs.shelf.Tests.{cases-bool, lt-ltb, ltb-true}
+use Rattle.model.proofs.Ground.{Orderly, Sound, le, self}
+use Rattle.model.specs.Finite.{low}
+use Rattle.model.specs.Lateness.{Choice, Lawful, least}
+use Rattle.model.specs.Lots.{lot-count, whole}
+use Rattle.model.specs.Meeting.{Apart}
+use Rattle.model.specs.Tolls.{Fares, Planned, bill, given, pay, plan-toll, struck-charges, toll}
+use Rattle.model.specs.Yard.{Yard, event-count, noted}
 use Rattle.sums.specs.Totals.{total}
 use Rattle.tariff.specs.Tolls.{Lawful-tolls, Tolls}
 use Rattle.model.proofs.Lateness.{least-is}
-use Rattle.model.proofs.Sums.{right, both-le, sum-same, sum-le, sum-none, sum-plus, sum-swap, sum-at, given-sum, given-plus}
+use Rattle.model.proofs.Sums.{right, both-le, sum-same, sum-le, sum-plus}
 use Rattle.model.proofs.Exchange.{exchange, lot-part, lot-part-is}
-use Rattle.model.proofs.Shares.{has, share, share-below, share-plan}
+use Rattle.model.proofs.Shares.{share, share-below, share-plan}
 use Rattle.model.proofs.Bills.{reached, root, due, all-due, bill-below, plan-due}
 
 module _ (g : Yard) {A : Type 0} (p : Tolls A) (l : Fares A) (bound : ℕ) (so : Sound g) (n : Apart g) (q : Lawful-tolls p) (o : Orderly g p l bound) where

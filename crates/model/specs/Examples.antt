@@ -5,7 +5,7 @@
 --   yard-sheet         the sheet in examples/, with lot 2 at a number of parcels
 --   Yard-sheet-worked  its lateness, bills, tolls and reserves as reckoned by hand
 use mathlib.Core.Path.{_≡_}
-use mathlib.Core.Bool.{Bool, true, false, cond}
+use mathlib.Core.Bool.{true, false, cond}
 use mathlib.Core.List.{List, [], _∷_}
 use Prim.Native.Nat.{ℕ, zero, suc}
 use lib.Dec.{eqb}
@@ -24,10 +24,9 @@ use Rattle.tariff.specs.Tolls.{numbers}
 use Rattle.tariff.specs.Minutes.{by-minutes}
 use Rattle.model.specs.declared.mark.Mark.{Mark}
 use Rattle.model.specs.declared.mark.Mark.the-variants.{Unmarked, Held, Struck}
-use Rattle.model.specs.Yard.{Yard, transfer, struck, unmarked}
+use Rattle.model.specs.Yard.{Yard, struck, unmarked}
 use Rattle.model.specs.Lateness.{Choice, least, worst, all-wait}
 use Rattle.model.specs.Meeting.{live, meets}
-use Rattle.model.specs.Tangles.{tangled}
 use Rattle.model.specs.Tolls.{fares-of, toll, miss-bill, bill, plan-toll, Planned}
 use Rattle.model.specs.Reserves.{reserve}
 use Rattle.model.specs.Laws.{yard, Reported, Clear}

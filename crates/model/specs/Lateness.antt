@@ -7,7 +7,7 @@
 --   worst      the worst timetable: the least lawful lateness when every unstruck transfer waits
 use mathlib.Core.Path.{_≡_}
 use mathlib.Core.Bool.{Bool, true, false, cond}
-use Prim.Native.Nat.{ℕ, zero, suc, _≤_, _<_, max}
+use Prim.Native.Nat.{ℕ, suc, _≤_, _<_, max}
 use lib.Dec.{eqb}
 use Rattle.model.specs.Yard.{Yard, event-count, activity-count, tail, head, handed, noted, struck, unmarked}
 use Rattle.model.specs.Finite.{top, turns}

@@ -14,7 +14,7 @@
 --   Reserve-alone        an event's reserve is the greatest delay that it alone may have
 --   Minutes-toll         under deduct and parcel-minutes, the toll as the published model has it
 use mathlib.Core.Path.{_≡_}
-use mathlib.Core.Bool.{Bool, true, false, cond}
+use mathlib.Core.Bool.{true, false, cond}
 use mathlib.Core.Logic.{_↔_}
 use Prim.Native.Nat.{ℕ, _*_, _-_, _≤_, _<_}
 use lib.Dec.{eqb}
@@ -74,7 +74,7 @@ No-rival-cheaper rule p =
     (z : Choice) → Planned (yard t rule delay mark) (p .tolls) (fares-of p (yard t rule delay mark)) z →
     (rival : Choice) (y : ℕ → ℕ) → Lawful (yard t rule delay mark) rival y →
     p .tolls .at-most (toll (yard t rule delay mark) (p .tolls) (fares-of p (yard t rule delay mark)) z (least (yard t rule delay mark) z))
-        (toll (yard t rule delay mark) (p .tolls) (fares-of p (yard t rule delay mark)) rival y) ≡ true
+    (toll (yard t rule delay mark) (p .tolls) (fares-of p (yard t rule delay mark)) rival y) ≡ true
 
 abbrev pub Toll-by-bills : {A : Type 0} → (ℕ → ℕ → ℕ) → Prices A → Type 0
 Toll-by-bills rule p =

@@ -5,10 +5,9 @@
 --   end          where a lot ends: the head of its last step
 --   whole        a lot without a struck transfer
 --   missed       a lot that goes through a gone transfer
-use mathlib.Core.Path.{_≡_}
-use mathlib.Core.Bool.{Bool, true, false, not}
+use mathlib.Core.Bool.{Bool, not}
 use mathlib.Core.List.{List, [], _∷_}
-use Prim.Native.Nat.{ℕ, _<_}
+use Prim.Native.Nat.{ℕ}
 use lib.ListN.{length}
 use Rattle.sheet.specs.declared.records.Lot.{Lot}
 use Rattle.sheet.specs.Rules.{lot-at, stretch}

@@ -8,7 +8,7 @@ use mathlib.Core.Path.{_≡_}
 use mathlib.Core.Bool.{Bool, true, false, cond, _&&_}
 use Prim.Native.Nat.{ℕ, _+_, _<_}
 use lib.Dec.{eqb, ltb, leb}
-use Rattle.model.specs.Yard.{Yard, event-count, activity-count, tail, head, handed, noted, struck}
+use Rattle.model.specs.Yard.{Yard, activity-count, tail, head, handed, noted, struck}
 use Rattle.model.specs.Finite.{count}
 use Rattle.model.specs.Lateness.{worst}
 

@@ -3,9 +3,8 @@
 --   remaining    the greatest lateness up to 1,440 that hands on at most an allowance
 --   tolerance    the most minutes that an event may be late without harm
 --   reserve      the least of an event's tolerance and of what remains by each unstruck activity that leaves it
-use mathlib.Core.Path.{_≡_}
-use mathlib.Core.Bool.{Bool, true, false, cond, not, _&&_}
-use Prim.Native.Nat.{ℕ, zero, suc, _-_, _≤_, _<_}
+use mathlib.Core.Bool.{cond, not, _&&_}
+use Prim.Native.Nat.{ℕ, zero, suc, _-_}
 use lib.Dec.{eqb, leb}
 use Rattle.sheet.specs.Rules.{event-at}
 use Rattle.model.specs.Yard.{Yard, event-count, activity-count, tail, head, handed, struck}

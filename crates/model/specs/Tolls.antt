@@ -11,7 +11,7 @@
 --                and every other unmarked transfer waits
 --   plan-toll    the struck lots' charges and the bills of the events with a noted delay
 use mathlib.Core.Path.{_≡_}
-use mathlib.Core.Bool.{Bool, true, false, cond, not, _&&_}
+use mathlib.Core.Bool.{Bool, true, cond, not, _&&_}
 use Prim.Native.Nat.{ℕ, suc, _-_, _<_}
 use lib.Dec.{eqb, ltb}
 use Rattle.tariff.specs.Tolls.{Tolls}
@@ -28,9 +28,10 @@ pub record Fares (A : Type 0) : Type 0 where
   pub miss : ℕ → A
 
 abbrev pub fares-of : {A : Type 0} → Prices A → Yard → Fares A
-fares-of p g = record
-    { late = λ i lateness. p .late (the-lot g i .class) (the-lot g i .parcels) lateness
-    ; miss = λ i. p .miss (the-lot g i .class) (the-lot g i .parcels) (g .sheet .period) }
+fares-of p g = record {
+  late = λ i lateness. p .late (the-lot g i .class) (the-lot g i .parcels) lateness;
+  miss = λ i. p .miss (the-lot g i .class) (the-lot g i .parcels) (g .sheet .period);
+}
 
 -- x where the test passes, else nothing
 abbrev pub given : {A : Type 0} → Tolls A → Bool → A → A

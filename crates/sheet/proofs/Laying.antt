@@ -4,7 +4,7 @@ use mathlib.Core.List.{List, [], _∷_, _++_}
 use Prim.Native.Nat.{ℕ, _+_, _-_, _≤_, _<_}
 use native.Mathlib.Omega.{arith}
 use lib.ListN.{length, getD, take, drop, set, length-drop, length-append}
-use Rattle.std.proofs.shelf.Lists.{append-nil, append-assoc, take-append-drop, drop-more, drop-drop, set-at, take-at, drop-at, length-take-le, length-push}
+use Rattle.std.proofs.shelf.Lists.{append-assoc, take-append-drop, drop-more, drop-drop, set-at, take-at, drop-at, length-take-le, length-push}
 use Rattle.sheet.specs.Laid.{laid}
 
 module _ {A : Type 0} (at : ℕ) where
@@ -21,9 +21,9 @@ module _ {A : Type 0} (at : ℕ) where
       let within : at ≤ length old = omega arith in
       let split = drop-more (drop at old) (length new) x room in
       let left : laid at new old ≡ (take at old ++ new) ++ getD (drop at old) (length new) x ∷ drop (length new + 1) (drop at old) =
-            ap (λ (ys : List A). take at old ++ (new ++ ys)) split ∙ sym (append-assoc (take at old) new _) in
+      ap (λ (ys : List A). take at old ++ (new ++ ys)) split ∙ sym (append-assoc (take at old) new _) in
       let right : laid at (new ++ x ∷ []) old ≡ (take at old ++ new) ++ x ∷ drop (length new + 1) (drop at old) =
-            rw (length-push new x) (ap (λ (ys : List A). take at old ++ ys) (append-assoc new (x ∷ []) _) ∙ sym (append-assoc (take at old) new _)) in
+      rw (length-push new x) (ap (λ (ys : List A). take at old ++ ys) (append-assoc new (x ∷ []) _) ∙ sym (append-assoc (take at old) new _)) in
       ap (λ (ys : List A). set ys (at + length new) x) left
       ∙ set-at (take at old ++ new) _ _ x (at + length new) (front new old within)
       ∙ sym right
@@ -42,9 +42,9 @@ module _ {A : Type 0} (at : ℕ) where
       let rest = drop (length new) (drop at old) in
       let joined : laid at new old ≡ (take at old ++ new) ++ rest = sym (append-assoc (take at old) new rest) in
       let t : take (at + length new) (laid at new old) ≡ take at old ++ new =
-            ap (take (at + length new)) joined ∙ take-at (take at old ++ new) rest (at + length new) (front new old within) in
+      ap (take (at + length new)) joined ∙ take-at (take at old ++ new) rest (at + length new) (front new old within) in
       let d : drop (at + length new) (laid at new old) ≡ rest =
-            ap (drop (at + length new)) joined ∙ drop-at (take at old ++ new) rest (at + length new) (front new old within) in
+      ap (drop (at + length new)) joined ∙ drop-at (take at old ++ new) rest (at + length new) (front new old within) in
       rw (t, d) (append-assoc (take at old) new _
       ∙ ap (λ (ys : List A). take at old ++ ys) (sym (append-assoc new more _) ∙ rw (drop-drop (length more) (length new) (drop at old), length-append new more)))
 

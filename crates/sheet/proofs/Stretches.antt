@@ -1,10 +1,9 @@
 -- What a well-formed sheet's rules say of one record at a time.
-use mathlib.Core.Path.{_≡_, refl}
-use mathlib.Core.Bool.{Bool, true, false, _&&_}
+use mathlib.Core.Path.{_≡_}
+use mathlib.Core.Bool.{true}
 use mathlib.Core.List.{List, [], _∷_}
 use Prim.Native.Nat.{ℕ, zero, suc, _+_, _≤_, _<_}
 use native.Mathlib.Omega.{arith}
-use lib.Dec.{eqb, leb}
 use lib.ListN.{length, getD, take, drop, length-drop}
 use Rattle.std.proofs.shelf.Tests.{and-parts, eqb-true, leb-true}
 use Rattle.std.specs.declared.option.Option.the-variants.{None}
@@ -46,7 +45,7 @@ first-of activities first l ls steps h =
 
 -- each lot's stretch lies within the step table
 pub within-steps : (activities : List Activity) (first : ℕ) (ls : List Lot) (steps : List ℕ) → lots-keep activities first ls steps ≡ true
-  → (i : ℕ) (d : Lot) → i < length ls → getD ls i d .first + getD ls i d .count ≤ first + length steps
+    → (i : ℕ) (d : Lot) → i < length ls → getD ls i d .first + getD ls i d .count ≤ first + length steps
 within-steps activities first [] steps h i d k = absurd (omega arith)
 within-steps activities first (l ∷ ls) steps h zero d k = let f = first-of activities first l ls steps h in omega (arith, f .starts, f .within)
 within-steps activities first (l ∷ ls) steps h (suc i) d k =

@@ -1,5 +1,5 @@
 -- As many records are read as were counted, so the front of the table is just what was read.
-use mathlib.Core.Path.{_≡_, refl, sym, ap, _∙_}
+use mathlib.Core.Path.{_≡_, sym, ap, _∙_}
 use mathlib.Core.List.{List}
 use Prim.Native.Nat.{ℕ}
 use lib.ListN.{length, take}
@@ -11,7 +11,6 @@ use Rattle.sheet_read.specs.declared.fault.Section.{Section}
 use Rattle.sheet_read.specs.declared.fault.Spot.{Spot}
 use Rattle.sheet_read.specs.declared.fault.RecordFault.{RecordFault}
 use Rattle.sheet_read.specs.declared.fault.SheetFault.{SheetFault}
-use Rattle.sheet_read.specs.Numbers.{then}
 use Rattle.sheet_read.specs.Sections.{placed, next-number, records-of, in-sheet, count-of, section-from, section-of}
 use Rattle.sheet_read.proofs.Running.{run-length}
 use Rattle.sheet_read.proofs.Faithful.{ok-not-err, then-ok}
@@ -36,14 +35,15 @@ module _ {A : Type 0} (read : Spot → List ℕ → Result (A × List ℕ) Recor
       let m : p .0 ≡ n = ap (λ (x : ℕ × List ℕ). x .0) q in
       let o : records-of read section total 0 (p .0) (p .1) .1 ≡ Ok rest = in-sheet-ok (records-of read section total 0 (p .0) (p .1) .1) (t .0) (t .1) ∙ ap {B = Result (List ℕ) RecordFault} (λ (x : ℕ × List ℕ). Ok (x .1)) q in
       let whole : records-of read section total 0 (p .0) (p .1) ≡ (records-of read section total 0 (p .0) (p .1) .0, Ok rest) =
-            ap (λ (x : Result (List ℕ) RecordFault). (records-of read section total 0 (p .0) (p .1) .0, x)) o in
-      record
-      { start = p .1
-      ; counted = ap {B = Result (ℕ × List ℕ) SheetFault} (λ (k : ℕ). Ok (k, p .1)) m
-      ; ran = ap (λ (k : ℕ). records-of read section total 0 k (p .1)) (sym m) ∙ whole
-      ; long = run-length (placed read section total) next-number 0 (p .0) (p .1) _ rest whole ∙ m }
+      ap (λ (x : Result (List ℕ) RecordFault). (records-of read section total 0 (p .0) (p .1) .0, x)) o in
+      record {
+        start = p .1;
+        counted = ap {B = Result (ℕ × List ℕ) SheetFault} (λ (k : ℕ). Ok (k, p .1)) m;
+        ran = ap (λ (k : ℕ). records-of read section total 0 k (p .1)) (sym m) ∙ whole;
+        long = run-length (placed read section total) next-number 0 (p .0) (p .1) _ rest whole ∙ m;
+      }
 
   -- what the table holds at its front
   pub section-front : (cells : ℕ) (bs : List ℕ) (n : ℕ) (rest : List ℕ) (old : List A) → section-of read section total cells bs .1 ≡ Ok (n, rest)
-    → take n (laid 0 (section-of read section total cells bs .0) old) ≡ section-of read section total cells bs .0
+      → take n (laid 0 (section-of read section total cells bs .0) old) ≡ section-of read section total cells bs .0
   section-front cells bs n rest old e = take-at (section-of read section total cells bs .0) _ n (section-whole (count-of section total cells bs) n rest e .long)

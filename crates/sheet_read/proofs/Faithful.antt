@@ -2,29 +2,22 @@
 use mathlib.Core.Path.{_≡_, refl, sym, ap, subst, _∙_}
 use mathlib.Core.Bool.{Bool, true, false}
 use mathlib.Core.List.{List, [], _∷_, _++_}
-use Prim.Native.Nat.{ℕ, zero, suc, _+_, _*_, _/_, _%_, _<_, _≤_}
+use Prim.Native.Nat.{ℕ, zero, suc, _+_, _*_, _/_, _%_, _<_}
 use native.Mathlib.Omega.{arith}
-use lib.ListN.{length}
-use Rattle.std.proofs.shelf.Lists.{append-assoc}
-use Rattle.std.specs.Joined.{joined}
 use Rattle.std.specs.shelf.Lists.{All}
 use Rattle.std.specs.declared.option.Option.{Option}
 use Rattle.std.specs.declared.option.Option.the-variants.{Some, None}
 use Rattle.std.specs.declared.result.Result.{Result}
 use Rattle.std.specs.declared.result.Result.the-variants.{Ok, Err}
 use Rattle.sheet.specs.declared.records.Side.{Side}
-use Rattle.sheet.specs.declared.records.Side.the-variants.{Arrival, Departure}
 use Rattle.sheet.specs.declared.records.Kind.{Kind}
-use Rattle.sheet.specs.declared.records.Kind.the-variants.{Drive, Stand, Transfer}
 use Rattle.sheet.specs.declared.records.Class.{Class}
-use Rattle.sheet.specs.declared.records.Class.the-variants.{Ordinary, Express}
 use Rattle.sheet.specs.declared.records.Event.{Event}
 use Rattle.sheet.specs.declared.records.Activity.{Activity}
 use Rattle.sheet.specs.Rules.{period-keeps, event-keeps, activity-keeps, lot-keeps, step-keeps}
 use Rattle.sheet.specs.Bytes.{number-bytes, four-bytes, side-number, kind-number, class-number, event-bytes, activity-bytes}
 use Rattle.sheet_read.specs.declared.fault.Spot.{Spot}
 use Rattle.sheet_read.specs.declared.fault.ReaderFault.{ReaderFault}
-use Rattle.sheet_read.specs.declared.fault.RecordFault.{RecordFault}
 use Rattle.sheet_read.specs.declared.«record».LotHead.{LotHead}
 use Rattle.sheet_read.specs.Numbers.{then, number-of, four-of}
 use Rattle.sheet_read.specs.Records.{in-record, passed, ruled, side-of, kind-of, class-of, event-with, event-from, event-of, activity-with, activity-from, activity-of, head-with, head-from, head-of, step-of, period-of}
@@ -77,7 +70,7 @@ four-joined : (a b c d : ℕ) (bs r s t u : List ℕ) → bs ≡ number-bytes a 
 four-joined a b c d bs r s t u e f g h = in-front a bs r _ e (in-front b r s _ f (in-front c s t _ g h))
 
 four-faithful : (at : Spot) (bs : List ℕ) (p : (ℕ × ℕ × ℕ × ℕ) × List ℕ) → Bytes bs → four-of at bs ≡ Ok p
-  → (bs ≡ four-bytes (p .0 .0) (p .0 .1) (p .0 .2) (p .0 .3) ++ p .1) × Bytes (p .1)
+    → (bs ≡ four-bytes (p .0 .0) (p .0 .1) (p .0 .2) (p .0 .3) ++ p .1) × Bytes (p .1)
 four-faithful at bs p h e =
     let a = then-ok (number-of at bs) _ p e in
     let fa = number-faithful at bs (a .0) h (a .1) in
@@ -130,7 +123,7 @@ passed-some true x y h = (refl, cc)
 passed-some false x y h = absurd (none-not-some y h)
 
 event-made : (period : ℕ) (n : ℕ × ℕ × ℕ × ℕ) (o : Option Side) (e : Event) → side-of (n .2) ≡ o → event-with period n o ≡ Some e
-  → (four-bytes (n .0) (n .1) (n .2) (n .3) ≡ event-bytes e) × (event-keeps period e ≡ true)
+    → (four-bytes (n .0) (n .1) (n .2) (n .3) ≡ event-bytes e) × (event-keeps period e ≡ true)
 event-made period n None e s h = absurd (none-not-some e h)
 event-made period n (Some side) e s h =
     let q = passed-some _ _ e h in
@@ -147,7 +140,7 @@ event-faithful period at bs p h e =
     (record { bytes = fa .0 ∙ ap (λ (xs : List ℕ). xs ++ a .0 .1) (m .0); left = fa .1; rule = m .1 })
 
 activity-made : (events : List Event) (n : ℕ × ℕ × ℕ × ℕ) (o : Option Kind) (a : Activity) → kind-of (n .0) ≡ o → activity-with events n o ≡ Some a
-  → (four-bytes (n .0) (n .1) (n .2) (n .3) ≡ activity-bytes a) × (activity-keeps events a ≡ true)
+    → (four-bytes (n .0) (n .1) (n .2) (n .3) ≡ activity-bytes a) × (activity-keeps events a ≡ true)
 activity-made events n None a s h = absurd (none-not-some a h)
 activity-made events n (Some kind) a s h =
     let q = passed-some _ _ a h in
@@ -165,7 +158,7 @@ activity-faithful events at bs p h e =
 
 -- a number under a rule: the period, and a step
 numbered : (test : ℕ → Bool) (at : Spot) (bs : List ℕ) (p : ℕ × List ℕ) → Bytes bs → then (in-record (number-of at bs)) (λ q. ruled at (passed (test (q .0)) q)) ≡ Ok p
-  → Found bs (number-bytes (p .0)) (p .1) (test (p .0))
+    → Found bs (number-bytes (p .0)) (p .1) (test (p .0))
 numbered test at bs p h e =
     let a = then-ok (in-record (number-of at bs)) _ p e in
     let fa = number-faithful at bs (a .0) h (in-record-ok (number-of at bs) (a .0) (a .1)) in
@@ -176,7 +169,7 @@ pub period-faithful : (at : Spot) (bs : List ℕ) (p : ℕ × List ℕ) → Byte
 period-faithful = numbered period-keeps
 
 pub step-faithful : (activities : List Activity) (from : Option ℕ) (at : Spot) (bs : List ℕ) (p : ℕ × List ℕ) → Bytes bs → step-of activities from at bs ≡ Ok p
-  → Found bs (number-bytes (p .0)) (p .1) (step-keeps activities from (p .0))
+    → Found bs (number-bytes (p .0)) (p .1) (step-keeps activities from (p .0))
 step-faithful activities from = numbered (step-keeps activities from)
 
 -- a lot's three numbers
@@ -184,15 +177,16 @@ abbrev pub head-bytes : Class → ℕ → ℕ → List ℕ
 head-bytes class parcels count = number-bytes (class-number class) ++ (number-bytes parcels ++ number-bytes count)
 
 head-made : (n parcels count : ℕ) (o : Option Class) (k : LotHead) → class-of n ≡ o → head-with parcels count o ≡ Some k
-  → (number-bytes n ++ (number-bytes parcels ++ number-bytes count) ≡ head-bytes (k .class) (k .parcels) (k .count)) × (lot-keeps (k .parcels) (k .count) ≡ true)
+    → (number-bytes n ++ (number-bytes parcels ++ number-bytes count) ≡ head-bytes (k .class) (k .parcels) (k .count)) × (lot-keeps (k .parcels) (k .count) ≡ true)
 head-made n parcels count None k s h = absurd (none-not-some k h)
 head-made n parcels count (Some class) k s h =
-    let q = passed-some _ _ k h in
-    ( ap (λ (m : ℕ). number-bytes m ++ (number-bytes parcels ++ number-bytes count)) (class-faithful n class s) ∙ ap (λ (x : LotHead). head-bytes (x .class) (x .parcels) (x .count)) (q .1)
-    , ap (λ (x : LotHead). lot-keeps (x .parcels) (x .count)) (sym (q .1)) ∙ q .0 )
+    let q = passed-some _ _ k h in (
+      ap (λ (m : ℕ). number-bytes m ++ (number-bytes parcels ++ number-bytes count)) (class-faithful n class s) ∙ ap (λ (x : LotHead). head-bytes (x .class) (x .parcels) (x .count)) (q .1),
+      ap (λ (x : LotHead). lot-keeps (x .parcels) (x .count)) (sym (q .1)) ∙ q .0,
+    )
 
 pub head-faithful : (at : Spot) (bs : List ℕ) (p : LotHead × List ℕ) → Bytes bs → head-of at bs ≡ Ok p
-  → Found bs (head-bytes (p .0 .class) (p .0 .parcels) (p .0 .count)) (p .1) (lot-keeps (p .0 .parcels) (p .0 .count))
+    → Found bs (head-bytes (p .0 .class) (p .0 .parcels) (p .0 .count)) (p .1) (lot-keeps (p .0 .parcels) (p .0 .count))
 head-faithful at bs p h e =
     let a = then-ok (in-record (number-of at bs)) _ p e in
     let fa = number-faithful at bs (a .0) h (in-record-ok (number-of at bs) (a .0) (a .1)) in
@@ -204,6 +198,6 @@ head-faithful at bs p h e =
     let m = head-made (a .0 .0) (b .0 .0) (c .0 .0) (class-of (a .0 .0)) (d .0) refl (ruled-ok at (head-from (a .0 .0) (b .0 .0) (c .0 .0)) (d .0) (d .1)) in
     let q : (d .0, c .0 .1) ≡ p = ok-pair (d .0) (c .0 .1) p (d .2) in
     let all : bs ≡ (number-bytes (a .0 .0) ++ (number-bytes (b .0 .0) ++ number-bytes (c .0 .0))) ++ c .0 .1 =
-          in-front (a .0 .0) bs (a .0 .1) _ (fa .0) (in-front (b .0 .0) (a .0 .1) (b .0 .1) _ (fb .0) (fc .0)) in
+    in-front (a .0 .0) bs (a .0 .1) _ (fa .0) (in-front (b .0 .0) (a .0 .1) (b .0 .1) _ (fb .0) (fc .0)) in
     subst (λ (p : LotHead × List ℕ). Found bs (head-bytes (p .0 .class) (p .0 .parcels) (p .0 .count)) (p .1) (lot-keeps (p .0 .parcels) (p .0 .count))) q
     (record { bytes = all ∙ ap (λ (xs : List ℕ). xs ++ c .0 .1) (m .0); left = fc .1; rule = m .1 })

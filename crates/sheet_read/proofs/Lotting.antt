@@ -1,13 +1,13 @@
 -- The lots: what one lot's reading says, and what the loop over the lots has read and written.
-use mathlib.Core.Path.{_≡_, refl, sym, ap, subst, _∙_}
+use mathlib.Core.Path.{_≡_, refl, sym, ap, _∙_}
 use mathlib.Core.Bool.{Bool, true, false, cond}
 use mathlib.Core.List.{List, [], _∷_, _++_, map}
-use Prim.Native.Nat.{ℕ, zero, suc, _+_, _-_, _<_, _≤_}
+use Prim.Native.Nat.{ℕ, _+_, _-_, _<_, _≤_}
 use native.Mathlib.Omega.{arith}
 use native.Mathlib.Nat.{zero-add}
 use lib.Dec.{ltb}
 use lib.ListN.{length, set}
-use Rattle.std.proofs.shelf.Lists.{append-assoc, append-nil, length-append, length-map, map-append, length-push}
+use Rattle.std.proofs.shelf.Lists.{append-assoc, append-nil, length-append, length-map, map-append}
 use Rattle.std.proofs.shelf.Tests.{ltb-false}
 use Rattle.std.specs.Joined.{joined}
 use Rattle.std.specs.declared.option.Option.{Option}
@@ -25,8 +25,8 @@ use Rattle.sheet_read.specs.declared.fault.SheetFault.{SheetFault}
 use Rattle.sheet_read.specs.declared.fault.SheetFault.the-variants.{Bounds, Table}
 use Rattle.sheet_read.specs.declared.«record».LotHead.{LotHead}
 use Rattle.sheet_read.specs.Records.{head-of}
-use Rattle.sheet_read.specs.Sections.{spot-at, run}
-use Rattle.sheet_read.specs.Lots.{lot-step, step-on, steps-from, room-for, LotRead, lot-made, lot-with, lot-in, lot-after, lot-of, lot-alone, lot-steps, next-lot, lots-of, lot-only, steps-only, broken-off, lots-read, steps-read, lots-answer}
+use Rattle.sheet_read.specs.Sections.{spot-at}
+use Rattle.sheet_read.specs.Lots.{lot-step, step-on, steps-from, room-for, LotRead, lot-made, lot-with, lot-in, lot-after, lot-of, lot-alone, lot-steps, next-lot, lots-of, lot-only, steps-only, lots-read, steps-read, lots-answer}
 use Rattle.sheet_read.proofs.Running.{run-length, Reached, reached-none, reached-more, reached-fault, reached-all}
 use Rattle.sheet_read.proofs.Faithful.{ok-not-err, none-not-some}
 
@@ -56,7 +56,7 @@ lot-with-ok used h (steps, Err f) p e = absurd (ok-not-err p _ e)
 
 module _ (activities : List Activity) (total cells lot used : ℕ) (bs : List ℕ) where
   found-in : (h : LotHead × List ℕ) (o : Option SheetFault) (p : (Lot × List ℕ) × List ℕ) → head-of (spot-at Lots lot total bs) bs ≡ Ok h
-    → room-for (spot-at Lots lot total bs) cells used (h .0 .count) ≡ o → lot-in activities total lot used h o ≡ Ok p → LotFound activities total cells lot used bs (p .0 .0) (p .0 .1) (p .1)
+      → room-for (spot-at Lots lot total bs) cells used (h .0 .count) ≡ o → lot-in activities total lot used h o ≡ Ok p → LotFound activities total cells lot used bs (p .0 .0) (p .0 .1) (p .1)
   found-in h (Some f) p e r q = absurd (ok-not-err p _ q)
   found-in h None p e r q =
       let w = lot-with-ok used (h .0) (steps-from activities lot total (h .0 .count) (h .1)) p q in
@@ -66,7 +66,7 @@ module _ (activities : List Activity) (total cells lot used : ℕ) (bs : List �
       record { head = h; headed = e; made = w .1; bounded = omega (arith, n, room .0); roomy = omega (arith, n, room .1); stepped = rw n (w .0); long = long ∙ sym n }
 
   found-after : (r : Result (LotHead × List ℕ) RecordFault) (p : (Lot × List ℕ) × List ℕ) → head-of (spot-at Lots lot total bs) bs ≡ r
-    → lot-after activities total cells lot used (spot-at Lots lot total bs) r ≡ Ok p → LotFound activities total cells lot used bs (p .0 .0) (p .0 .1) (p .1)
+      → lot-after activities total cells lot used (spot-at Lots lot total bs) r ≡ Ok p → LotFound activities total cells lot used bs (p .0 .0) (p .0 .1) (p .1)
   found-after (Err f) p e q = absurd (ok-not-err p _ q)
   found-after (Ok h) p e q = found-in h (room-for (spot-at Lots lot total bs) cells used (h .0 .count)) p e refl q
 
@@ -110,21 +110,22 @@ module _ (activities : List Activity) (total cells n : ℕ) (bs : List ℕ) (old
       ap (λ (zs : List ℕ). laid used ys zs) e ∙ ap (λ (k : ℕ). laid k ys (laid 0 xs old-steps)) (sym z) ∙ laid-laid 0 xs ys old-steps h
 
   pub lots-more : (i used : ℕ) (rest : List ℕ) (lots : List Lot) (steps : List ℕ) (l : Lot) (ss rest′ : List ℕ) (steps′ : List ℕ) → cells ≡ length old-steps
-    → LotsRead i used rest lots steps → i < n → i < length old-lots → lot-of activities total cells (i, used) rest ≡ Ok ((l, ss), rest′) → steps′ ≡ laid used ss steps
-    → LotsRead (i + 1) (used + l .count) rest′ (set lots i l) steps′
+      → LotsRead i used rest lots steps → i < n → i < length old-lots → lot-of activities total cells (i, used) rest ≡ Ok ((l, ss), rest′) → steps′ ≡ laid used ss steps
+      → LotsRead (i + 1) (used + l .count) rest′ (set lots i l) steps′
   lots-more i used rest lots steps l ss rest′ steps′ c r h k e s =
       let f = lot-found activities total cells i used rest ((l, ss), rest′) e in
       let m : length (map lot-only (r .items)) ≡ i = length-map (r .items) lot-only ∙ r .reached .long in
       let q : 0 + length (map lot-only (r .items)) ≡ i = zero-add _ ∙ m in
-      record
-      { items = r .items ++ (l, ss) ∷ []
-      ; reached = reached-more (lot-of activities total cells) next-lot (0, 0) n bs i (i, used) rest (r .items) (l, ss) rest′ (r .reached) h e
-      ; lots-are = ap (λ (zs : List Lot). set zs i l) (r .lots-are) ∙ ap (λ (j : ℕ). set (laid 0 (map lot-only (r .items)) old-lots) j l) (sym q)
-          ∙ laid-more 0 (map lot-only (r .items)) old-lots l (omega (arith, q, k)) ∙ ap (λ (zs : List Lot). laid 0 zs old-lots) (sym (map-append lot-only (r .items) ((l, ss) ∷ [])))
-      ; steps-are = s ∙ behind (joined steps-only (r .items)) ss used steps (r .spent) (r .roomy) (r .steps-are) ∙ ap (λ (zs : List ℕ). laid 0 zs old-steps) (sym (joined-push (r .items) (l, ss)))
-      ; spent = ap length (joined-push (r .items) (l, ss)) ∙ length-append (joined steps-only (r .items)) ss ∙ rw (r .spent, f .long)
-      ; bounded = f .bounded
-      ; roomy = omega (arith, f .roomy, c) }
+      record {
+        items = r .items ++ (l, ss) ∷ [];
+        reached = reached-more (lot-of activities total cells) next-lot (0, 0) n bs i (i, used) rest (r .items) (l, ss) rest′ (r .reached) h e;
+        lots-are = ap (λ (zs : List Lot). set zs i l) (r .lots-are) ∙ ap (λ (j : ℕ). set (laid 0 (map lot-only (r .items)) old-lots) j l) (sym q)
+            ∙ laid-more 0 (map lot-only (r .items)) old-lots l (omega (arith, q, k)) ∙ ap (λ (zs : List Lot). laid 0 zs old-lots) (sym (map-append lot-only (r .items) ((l, ss) ∷ [])));
+        steps-are = s ∙ behind (joined steps-only (r .items)) ss used steps (r .spent) (r .roomy) (r .steps-are) ∙ ap (λ (zs : List ℕ). laid 0 zs old-steps) (sym (joined-push (r .items) (l, ss)));
+        spent = ap length (joined-push (r .items) (l, ss)) ∙ length-append (joined steps-only (r .items)) ss ∙ rw (r .spent, f .long);
+        bounded = f .bounded;
+        roomy = omega (arith, f .roomy, c);
+      }
 
   -- what the loop leaves where it ends
   pub record LotsLeft (answer : Result (ℕ × List ℕ) SheetFault) (lots : List Lot) (steps : List ℕ) : Type 0 where
@@ -133,21 +134,23 @@ module _ (activities : List Activity) (total cells n : ℕ) (bs : List ℕ) (old
     pub steps-hold : steps ≡ laid 0 (steps-read (lots-of activities total cells n bs)) old-steps
 
   pub lots-fault : (i used : ℕ) (rest : List ℕ) (lots : List Lot) (steps : List ℕ) (ss : List ℕ) (f : SheetFault) (steps′ : List ℕ)
-    → LotsRead i used rest lots steps → i < n → lot-of activities total cells (i, used) rest ≡ Err (ss, f) → steps′ ≡ laid used ss steps
-    → LotsLeft (Err f) lots steps′
+      → LotsRead i used rest lots steps → i < n → lot-of activities total cells (i, used) rest ≡ Err (ss, f) → steps′ ≡ laid used ss steps
+      → LotsLeft (Err f) lots steps′
   lots-fault i used rest lots steps ss f steps′ r h e s =
       let q = reached-fault (lot-of activities total cells) next-lot (0, 0) n bs i (i, used) rest (r .items) (ss, f) (r .reached) h e in
-      record
-      { answers = ap lots-answer q
-      ; lots-hold = r .lots-are ∙ ap (λ (x : List (Lot × List ℕ) × Result (List ℕ) (List ℕ × SheetFault)). laid 0 (lots-read x) old-lots) (sym q)
-      ; steps-hold = s ∙ behind (joined steps-only (r .items)) ss used steps (r .spent) (r .roomy) (r .steps-are)
-          ∙ ap (λ (x : List (Lot × List ℕ) × Result (List ℕ) (List ℕ × SheetFault)). laid 0 (steps-read x) old-steps) (sym q) }
+      record {
+        answers = ap lots-answer q;
+        lots-hold = r .lots-are ∙ ap (λ (x : List (Lot × List ℕ) × Result (List ℕ) (List ℕ × SheetFault)). laid 0 (lots-read x) old-lots) (sym q);
+        steps-hold = s ∙ behind (joined steps-only (r .items)) ss used steps (r .spent) (r .roomy) (r .steps-are)
+            ∙ ap (λ (x : List (Lot × List ℕ) × Result (List ℕ) (List ℕ × SheetFault)). laid 0 (steps-read x) old-steps) (sym q);
+      }
 
   pub lots-all : (i used : ℕ) (rest : List ℕ) (lots : List Lot) (steps : List ℕ) → LotsRead i used rest lots steps → n ≤ i → LotsLeft (Ok (used, rest)) lots steps
   lots-all i used rest lots steps r h =
       let q = reached-all (lot-of activities total cells) next-lot (0, 0) n bs i (i, used) rest (r .items) (r .reached) h in
-      record
-      { answers = ap lots-answer q ∙ ap {B = Result (ℕ × List ℕ) SheetFault} (λ (k : ℕ). Ok (k, rest)) (r .spent)
-      ; lots-hold = r .lots-are ∙ ap (λ (x : List (Lot × List ℕ) × Result (List ℕ) (List ℕ × SheetFault)). laid 0 (lots-read x) old-lots) (sym q)
-      ; steps-hold = r .steps-are ∙ ap (λ (zs : List ℕ). laid 0 zs old-steps) (sym (append-nil (joined steps-only (r .items))))
-          ∙ ap (λ (x : List (Lot × List ℕ) × Result (List ℕ) (List ℕ × SheetFault)). laid 0 (steps-read x) old-steps) (sym q) }
+      record {
+        answers = ap lots-answer q ∙ ap {B = Result (ℕ × List ℕ) SheetFault} (λ (k : ℕ). Ok (k, rest)) (r .spent);
+        lots-hold = r .lots-are ∙ ap (λ (x : List (Lot × List ℕ) × Result (List ℕ) (List ℕ × SheetFault)). laid 0 (lots-read x) old-lots) (sym q);
+        steps-hold = r .steps-are ∙ ap (λ (zs : List ℕ). laid 0 zs old-steps) (sym (append-nil (joined steps-only (r .items))))
+            ∙ ap (λ (x : List (Lot × List ℕ) × Result (List ℕ) (List ℕ × SheetFault)). laid 0 (steps-read x) old-steps) (sym q);
+      }

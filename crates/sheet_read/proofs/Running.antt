@@ -38,15 +38,20 @@ module _ {A S E : Type 0} (read : S → List ℕ → Result (A × List ℕ) E) (
 
   pub first-turn : (s : S) (n : ℕ) (bs : List ℕ) (xs : List A) (rest : List ℕ) → run read next s (suc n) bs ≡ (xs, Ok rest) → First s n bs xs rest
   first-turn s n bs xs rest e =
-      elim (read s bs) as (λ v. read s bs ≡ v → First s n bs xs rest)
-      [ Ok p ↦ λ q.
-          let m : after (p .0 ∷ []) (run read next (next s (p .0)) n (p .1)) ≡ (xs, Ok rest) = sym (run-more s n bs (p .0) (p .1) q) ∙ e in
-          let r = run read next (next s (p .0)) n (p .1) in
-          record
-          { item = p .0; mid = p .1; others = r .0; reads = q
-          ; splits = ap (λ (x : List A × Result (List ℕ) E). x .0) (sym m)
-          ; goes-on = ap (λ (o : Result (List ℕ) E). (r .0, o)) (ap (λ (x : List A × Result (List ℕ) E). x .1) m) }
-      | Err f ↦ λ q. let m = ap (λ (x : List A × Result (List ℕ) E). x .1) (sym (run-fault s n bs f q) ∙ e) in let z : _≡_ {A = ℕ} 0 1 = cc in absurd (omega arith) ]
+      elim (read s bs) as (λ v. read s bs ≡ v → First s n bs xs rest) [
+        | Ok p ↦ λ q.
+            let m : after (p .0 ∷ []) (run read next (next s (p .0)) n (p .1)) ≡ (xs, Ok rest) = sym (run-more s n bs (p .0) (p .1) q) ∙ e in
+            let r = run read next (next s (p .0)) n (p .1) in
+            record {
+              item = p .0;
+              mid = p .1;
+              others = r .0;
+              reads = q;
+              splits = ap (λ (x : List A × Result (List ℕ) E). x .0) (sym m);
+              goes-on = ap (λ (o : Result (List ℕ) E). (r .0, o)) (ap (λ (x : List A × Result (List ℕ) E). x .1) m);
+            }
+        | Err f ↦ λ q. let m = ap (λ (x : List A × Result (List ℕ) E). x .1) (sym (run-fault s n bs f q) ∙ e) in let z : _≡_ {A = ℕ} 0 1 = cc in absurd (omega arith)
+      ]
       refl
 
   -- a run that comes to its end gives as much as it was to
@@ -69,7 +74,7 @@ module _ {A S E : Type 0} (read : S → List ℕ → Result (A × List ℕ) E) (
     turn i h = omega arith
 
     pub reached-more : (i : ℕ) (s : S) (rest : List ℕ) (xs : List A) (x : A) (rest′ : List ℕ)
-      → Reached s₀ n bs i s rest xs → i < n → read s rest ≡ Ok (x, rest′) → Reached s₀ n bs (i + 1) (next s x) rest′ (xs ++ x ∷ [])
+        → Reached s₀ n bs i s rest xs → i < n → read s rest ≡ Ok (x, rest′) → Reached s₀ n bs (i + 1) (next s x) rest′ (xs ++ x ∷ [])
     reached-more i s rest xs x rest′ r h e =
         let step : run read next s (n - i) rest ≡ after (x ∷ []) (run read next (next s x) (n - (i + 1)) rest′) = rw (turn i h) (run-more s (n - (i + 1)) rest x rest′ e) in
         let joined : after xs (after (x ∷ []) (run read next (next s x) (n - (i + 1)) rest′)) ≡ after (xs ++ x ∷ []) (run read next (next s x) (n - (i + 1)) rest′) = rw append-assoc in
@@ -97,25 +102,26 @@ module _ {A S E : Type 0} (read : S → List ℕ → Result (A × List ℕ) E) (
   filled-none = record { items = []; reached = reached-none read next s₀ n bs; cells = sym (laid-none at old) }
 
   pub filled-more : (i : ℕ) (s : S) (rest : List ℕ) (table : List A) (x : A) (rest′ : List ℕ) (k : ℕ)
-    → Filled i s rest table → i < n → k ≡ at + i → k < length old → read s rest ≡ Ok (x, rest′) → Filled (i + 1) (next s x) rest′ (set table k x)
+      → Filled i s rest table → i < n → k ≡ at + i → k < length old → read s rest ≡ Ok (x, rest′) → Filled (i + 1) (next s x) rest′ (set table k x)
   filled-more i s rest table x rest′ k f h e l r =
       let q : k ≡ at + length (f .items) = e ∙ ap (λ j. at + j) (sym (f .reached .long)) in
-      record
-      { items = f .items ++ x ∷ []
-      ; reached = reached-more read next s₀ n bs i s rest (f .items) x rest′ (f .reached) h r
-      ; cells = rw (f .cells, q) (laid-more at (f .items) old x (omega (arith, q, l))) }
+      record {
+        items = f .items ++ x ∷ [];
+        reached = reached-more read next s₀ n bs i s rest (f .items) x rest′ (f .reached) h r;
+        cells = rw (f .cells, q) (laid-more at (f .items) old x (omega (arith, q, l)));
+      }
 
   -- where the run ends, the table holds just what it gives
   ended : (xs : List A) (o : Result (List ℕ) E) (table : List A) → table ≡ laid at xs old → run read next s₀ n bs ≡ (xs, o)
-    → (run read next s₀ n bs .1 ≡ o) × (table ≡ laid at (run read next s₀ n bs .0) old)
+      → (run read next s₀ n bs .1 ≡ o) × (table ≡ laid at (run read next s₀ n bs .0) old)
   ended xs o table t e = (ap (λ (p : List A × Result (List ℕ) E). p .1) e, t ∙ ap (λ (p : List A × Result (List ℕ) E). laid at (p .0) old) (sym e))
 
   pub filled-fault : (i : ℕ) (s : S) (rest : List ℕ) (table : List A) (f : E) → Filled i s rest table → i < n → read s rest ≡ Err f
-    → (run read next s₀ n bs .1 ≡ Err f) × (table ≡ laid at (run read next s₀ n bs .0) old)
+      → (run read next s₀ n bs .1 ≡ Err f) × (table ≡ laid at (run read next s₀ n bs .0) old)
   filled-fault i s rest table f t h r = ended (t .items) (Err f) table (t .cells) (reached-fault read next s₀ n bs i s rest (t .items) f (t .reached) h r)
 
   pub filled-all : (i : ℕ) (s : S) (rest : List ℕ) (table : List A) → Filled i s rest table → n ≤ i
-    → (run read next s₀ n bs .1 ≡ Ok rest) × (table ≡ laid at (run read next s₀ n bs .0) old)
+      → (run read next s₀ n bs .1 ≡ Ok rest) × (table ≡ laid at (run read next s₀ n bs .0) old)
   filled-all i s rest table t h = ended (t .items) (Ok rest) table (t .cells) (reached-all read next s₀ n bs i s rest (t .items) (t .reached) h)
 
 -- what a call read, by what it returned

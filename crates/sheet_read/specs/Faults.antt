@@ -11,9 +11,7 @@ use Rattle.std.specs.Written.{decimal}
 use Rattle.sheet_read.specs.declared.fault.Section.{Section}
 use Rattle.sheet_read.specs.declared.fault.Section.the-variants.{Terms, Events, Activities, Lots}
 use Rattle.sheet_read.specs.declared.fault.Spot.{Spot}
-use Rattle.sheet_read.specs.declared.fault.ReaderFault.{ReaderFault}
 use Rattle.sheet_read.specs.declared.fault.ReaderFault.the-variants.{Short}
-use Rattle.sheet_read.specs.declared.fault.RecordFault.{RecordFault}
 use Rattle.sheet_read.specs.declared.fault.RecordFault.the-variants.{Reader, Rule}
 use Rattle.sheet_read.specs.declared.fault.SheetFault.{SheetFault}
 use Rattle.sheet_read.specs.declared.fault.SheetFault.the-variants.{Count, Record, Bounds, Table, Leftover}

@@ -5,7 +5,7 @@
 --   lot-of        a lot with its steps, and the bytes after it; or its fault, with the steps that were read before it
 --   lots-of       all lots, until the end or the first fault
 use Prim.Native.Nat.{ℕ, _+_}
-use mathlib.Core.Bool.{Bool, cond}
+use mathlib.Core.Bool.{cond}
 use mathlib.Core.List.{List, [], _++_, map}
 use lib.Dec.{ltb}
 use lib.ListN.{length}

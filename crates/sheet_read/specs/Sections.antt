@@ -6,7 +6,7 @@
 --   count-of      a section's count, with the bytes after it, or its fault
 --   section-of    the records that a section gives, and its count with the bytes after it, or the fault
 use Prim.Native.Nat.{ℕ, zero, suc, _+_, _-_}
-use mathlib.Core.Bool.{Bool, cond}
+use mathlib.Core.Bool.{cond}
 use mathlib.Core.List.{List, [], _∷_}
 use lib.Dec.{ltb}
 use lib.ListN.{length}
@@ -28,9 +28,10 @@ spot-at section item total rest = record { section = section; «record» = item;
 abbrev pub run : {A S E : Type 0} → (S → List ℕ → Result (A × List ℕ) E) → (S → A → S) → S → ℕ → List ℕ → List A × Result (List ℕ) E
 run read next s zero bs = ([], Ok bs)
 run read next s (suc n) bs =
-    elim (read s bs)
-    [ Ok p ↦ (p .0 ∷ run read next (next s (p .0)) n (p .1) .0, run read next (next s (p .0)) n (p .1) .1)
-    | Err f ↦ ([], Err f) ]
+    elim (read s bs) [
+      | Ok p ↦ (p .0 ∷ run read next (next s (p .0)) n (p .1) .0, run read next (next s (p .0)) n (p .1) .1)
+      | Err f ↦ ([], Err f)
+    ]
 
 -- the records of a section are numbered, and each is told where it begins
 abbrev pub placed : {A : Type 0} → (Spot → List ℕ → Result (A × List ℕ) RecordFault) → Section → ℕ → ℕ → List ℕ → Result (A × List ℕ) RecordFault
@@ -76,9 +77,10 @@ count-of section total cells bs = then (at-count (number-of (spot-at section 0 t
 -- a section after its count
 abbrev pub section-from : {A : Type 0} → (Spot → List ℕ → Result (A × List ℕ) RecordFault) → Section → ℕ → Result (ℕ × List ℕ) SheetFault → List A × Result (ℕ × List ℕ) SheetFault
 section-from read section total (Err e) = ([], Err e)
-section-from read section total (Ok p) =
-    ( records-of read section total 0 (p .0) (p .1) .0
-    , then (in-sheet (records-of read section total 0 (p .0) (p .1) .1)) (λ rest. Ok (p .0, rest)) )
+section-from read section total (Ok p) = (
+  records-of read section total 0 (p .0) (p .1) .0,
+  then (in-sheet (records-of read section total 0 (p .0) (p .1) .1)) (λ rest. Ok (p .0, rest)),
+)
 
 abbrev pub section-of : {A : Type 0} → (Spot → List ℕ → Result (A × List ℕ) RecordFault) → Section → ℕ → ℕ → List ℕ → List A × Result (ℕ × List ℕ) SheetFault
 section-of read section total cells bs = section-from read section total (count-of section total cells bs)

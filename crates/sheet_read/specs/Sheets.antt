@@ -18,7 +18,6 @@ use Rattle.sheet.specs.declared.records.Lot.{Lot}
 use Rattle.sheet.specs.Rules.{Tables, tables, well-formed as keeps-rules}
 use Rattle.sheet.specs.Bytes.{bytes-of}
 use Rattle.sheet_read.specs.declared.fault.Section.the-variants.{Terms, Events, Activities, Lots}
-use Rattle.sheet_read.specs.declared.fault.RecordFault.{RecordFault}
 use Rattle.sheet_read.specs.declared.fault.SheetFault.{SheetFault}
 use Rattle.sheet_read.specs.declared.fault.SheetFault.the-variants.{Leftover}
 use Rattle.sheet_read.specs.declared.read.Extent.{Extent}
@@ -61,10 +60,11 @@ pub record LotsReading : Type 0 where
 
 abbrev pub lots-section-from : List Activity → ℕ → ℕ → Result (ℕ × List ℕ) SheetFault → LotsReading
 lots-section-from acts total cells (Err f) = record { lots = []; steps = []; answer = Err f }
-lots-section-from acts total cells (Ok p) = record
-    { lots = lots-read (lots-of acts total cells (p .0) (p .1))
-    ; steps = steps-read (lots-of acts total cells (p .0) (p .1))
-    ; answer = then (lots-answer (lots-of acts total cells (p .0) (p .1))) (λ q. then (closed total (p .0) q) (λ ss. Ok (p .0, ss))) }
+lots-section-from acts total cells (Ok p) = record {
+  lots = lots-read (lots-of acts total cells (p .0) (p .1));
+  steps = steps-read (lots-of acts total cells (p .0) (p .1));
+  answer = then (lots-answer (lots-of acts total cells (p .0) (p .1))) (λ q. then (closed total (p .0) q) (λ ss. Ok (p .0, ss)));
+}
 
 abbrev pub lots-section-of : List Activity → ℕ → ℕ → ℕ → List ℕ → LotsReading
 lots-section-of acts total lot-cells step-cells bs = lots-section-from acts total step-cells (count-of Lots total lot-cells bs)

@@ -127,7 +127,12 @@ impl SheetFault {
             SheetFault::Leftover(at) => (7, at),
             SheetFault::Table(at) => (8, at),
         };
-        Refusal { number, section: at.section.number(), record: at.record, place: at.place }
+        Refusal {
+            number,
+            section: at.section.number(),
+            record: at.record,
+            place: at.place,
+        }
     }
 }
 
@@ -139,7 +144,10 @@ pub impl fmt::Display for Refusal as RefusalDisplay {
         let section = self.section;
         let record = self.record;
         let place = self.place;
-        write!(f, "refused {number} section {section} record {record} byte {place}")
+        write!(
+            f,
+            "refused {number} section {section} record {record} byte {place}"
+        )
     }
 }
 

@@ -19,7 +19,15 @@ use sheet::records::Activity;
 use sheet::records::Lot;
 
 /// Reads the `count` steps of lot number `lot` into the step table, from cell `used` on.
-pub(crate) fn read_steps<'b>(activities: &[Activity], lot: u16, total: usize, count: u16, bytes: &'b [u8], steps: &mut [u16], used: usize) -> Result<&'b [u8], RecordFault>
+pub(crate) fn read_steps<'b>(
+    activities: &[Activity],
+    lot: u16,
+    total: usize,
+    count: u16,
+    bytes: &'b [u8],
+    steps: &mut [u16],
+    used: usize,
+) -> Result<&'b [u8], RecordFault>
     requires { ⌜ used + count ≤ length (now steps) ⌝ }
     ensures answer { λ r. ⌜ mapped now (λ e. e) r ≡ steps-from (now (activities .entry)) lot total count (now (bytes .entry)) .1 ⌝ }
     ensures cells { λ _. ⌜ now (steps .exit) ≡ laid used (steps-from (now (activities .entry)) lot total count (now (bytes .entry)) .0) (now (steps .entry)) ⌝ }
@@ -51,7 +59,14 @@ fn room_fault(at: Spot, cells: usize, used: u16, count: u16) -> Option<SheetFaul
 }
 
 /// Reads lot number `lot`, after `used` steps of earlier lots.
-pub(crate) fn read_lot<'b>(activities: &[Activity], total: usize, lot: u16, used: u16, bytes: &'b [u8], steps: &mut [u16]) -> Result<(Lot, &'b [u8]), SheetFault>
+pub(crate) fn read_lot<'b>(
+    activities: &[Activity],
+    total: usize,
+    lot: u16,
+    used: u16,
+    bytes: &'b [u8],
+    steps: &mut [u16],
+) -> Result<(Lot, &'b [u8]), SheetFault>
     requires { ⌜ used ≤ length (now steps) ⌝ }
     ensures answer { λ r. ⌜ mapped with-rest (λ e. e) r ≡ lot-alone (lot-of (now (activities .entry)) total (length (now (steps .entry))) (lot, used) (now (bytes .entry))) ⌝ }
     ensures cells { λ _. ⌜ now (steps .exit) ≡ laid used (lot-steps (lot-of (now (activities .entry)) total (length (now (steps .entry))) (lot, used) (now (bytes .entry)))) (now (steps .entry)) ⌝ }
@@ -61,13 +76,33 @@ pub(crate) fn read_lot<'b>(activities: &[Activity], total: usize, lot: u16, used
     if let Some(fault) = room_fault(at, steps.len(), used, head.count) {
         return Err(fault);
     }
-    let rest = read_steps(activities, lot, total, head.count, rest, steps, usize::from(used))?;
-    let lot = Lot { class: head.class, parcels: head.parcels, first: used, count: head.count };
+    let rest = read_steps(
+        activities,
+        lot,
+        total,
+        head.count,
+        rest,
+        steps,
+        usize::from(used),
+    )?;
+    let lot = Lot {
+        class: head.class,
+        parcels: head.parcels,
+        first: used,
+        count: head.count,
+    };
     Ok((lot, rest))
 }
 
 /// Reads `count` lots into the fronts of the lot table and the step table; answers how many steps they have.
-pub(crate) fn read_lots<'b>(activities: &[Activity], total: usize, count: u16, bytes: &'b [u8], lots: &mut [Lot], steps: &mut [u16]) -> Result<(u16, &'b [u8]), SheetFault>
+pub(crate) fn read_lots<'b>(
+    activities: &[Activity],
+    total: usize,
+    count: u16,
+    bytes: &'b [u8],
+    lots: &mut [Lot],
+    steps: &mut [u16],
+) -> Result<(u16, &'b [u8]), SheetFault>
     requires { ⌜ count ≤ length (now lots) ⌝ }
     ensures answer { λ r. ⌜ mapped with-rest (λ e. e) r ≡ lots-answer (lots-of (now (activities .entry)) total (length (now (steps .entry))) count (now (bytes .entry))) ⌝ }
     ensures lots { λ _. ⌜ now (lots .exit) ≡ laid 0 (lots-read (lots-of (now (activities .entry)) total (length (now (steps .entry))) count (now (bytes .entry)))) (now (lots .entry)) ⌝ }

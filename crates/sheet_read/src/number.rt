@@ -17,7 +17,10 @@ pub(crate) fn take_number(bytes: &[u8], at: Spot) -> Result<(u16, &[u8]), Reader
 }
 
 /// The four numbers of an event or an activity.
-pub(crate) fn take_four(bytes: &[u8], at: Spot) -> Result<((u16, u16, u16, u16), &[u8]), ReaderFault>
+pub(crate) fn take_four(
+    bytes: &[u8],
+    at: Spot,
+) -> Result<((u16, u16, u16, u16), &[u8]), ReaderFault>
     ensures { λ r. ⌜ mapped with-rest (λ e. e) r ≡ four-of at (now (bytes .entry)) ⌝ }
 {
     let (a, rest) = take_number(bytes, at)?;

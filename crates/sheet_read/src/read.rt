@@ -50,7 +50,13 @@ fn close(steps: u16, rest: &[u8], total: usize, lots: u16) -> Result<u16, SheetF
 }
 
 /// Reads the section of the lots, to the end of the sheet; answers how many lots and steps there are.
-fn read_lots_section(bytes: &[u8], total: usize, activities: &[Activity], lots: &mut [Lot], steps: &mut [u16]) -> Result<(u16, u16), SheetFault>
+fn read_lots_section(
+    bytes: &[u8],
+    total: usize,
+    activities: &[Activity],
+    lots: &mut [Lot],
+    steps: &mut [u16],
+) -> Result<(u16, u16), SheetFault>
     ensures answer { λ r. ⌜ r ≡ lots-section-of (now (activities .entry)) total (length (now (lots .entry))) (length (now (steps .entry))) (now (bytes .entry)) .answer ⌝ }
     ensures lots { λ _. ⌜ now (lots .exit) ≡ laid 0 (lots-section-of (now (activities .entry)) total (length (now (lots .entry))) (length (now (steps .entry))) (now (bytes .entry)) .lots) (now (lots .entry)) ⌝ }
     ensures steps { λ _. ⌜ now (steps .exit) ≡ laid 0 (lots-section-of (now (activities .entry)) total (length (now (lots .entry))) (length (now (steps .entry))) (now (bytes .entry)) .steps) (now (steps .entry)) ⌝ }
@@ -62,7 +68,12 @@ fn read_lots_section(bytes: &[u8], total: usize, activities: &[Activity], lots: 
 }
 
 /// The extent of a sheet, once its lots and steps are found.
-fn extent_of(period: u16, events: u16, activities: u16, found: Result<(u16, u16), SheetFault>) -> Result<Extent, SheetFault>
+fn extent_of(
+    period: u16,
+    events: u16,
+    activities: u16,
+    found: Result<(u16, u16), SheetFault>,
+) -> Result<Extent, SheetFault>
     ensures { λ r. ⌜ r ≡ with-lots period events activities found ⌝ }
 {
     let (lots, steps) = found?;
@@ -76,7 +87,13 @@ fn extent_of(period: u16, events: u16, activities: u16, found: Result<(u16, u16)
 }
 
 /// Fills the fronts of the tables with what the bytes hold, until their end or the first fault.
-fn fill_tables(bytes: &[u8], events: &mut [Event], activities: &mut [Activity], lots: &mut [Lot], steps: &mut [u16]) -> Result<Extent, SheetFault>
+fn fill_tables(
+    bytes: &[u8],
+    events: &mut [Event],
+    activities: &mut [Activity],
+    lots: &mut [Lot],
+    steps: &mut [u16],
+) -> Result<Extent, SheetFault>
     ensures answer { λ r. ⌜ r ≡ reading-of (room-in (now (events .entry)) (now (activities .entry)) (now (lots .entry)) (now (steps .entry))) (now (bytes .entry)) .answer ⌝ }
     ensures events { λ _. ⌜ now (events .exit) ≡ laid 0 (reading-of (room-in (now (events .entry)) (now (activities .entry)) (now (lots .entry)) (now (steps .entry))) (now (bytes .entry)) .events) (now (events .entry)) ⌝ }
     ensures activities { λ _. ⌜ now (activities .exit) ≡ laid 0 (reading-of (room-in (now (events .entry)) (now (activities .entry)) (now (lots .entry)) (now (steps .entry))) (now (bytes .entry)) .activities) (now (activities .entry)) ⌝ }
@@ -95,7 +112,13 @@ fn fill_tables(bytes: &[u8], events: &mut [Event], activities: &mut [Activity], 
 
 /// Reads a sheet into the caller's tables, or refuses it.
 /// What was read before a fault stays written; all other cells keep their contents.
-pub fn read_sheet(bytes: &[u8], events: &mut [Event], activities: &mut [Activity], lots: &mut [Lot], steps: &mut [u16]) -> Result<Extent, SheetFault>
+pub fn read_sheet(
+    bytes: &[u8],
+    events: &mut [Event],
+    activities: &mut [Activity],
+    lots: &mut [Lot],
+    steps: &mut [u16],
+) -> Result<Extent, SheetFault>
     ensures answer { λ r. ⌜ r ≡ reading-of (room-in (now (events .entry)) (now (activities .entry)) (now (lots .entry)) (now (steps .entry))) (now (bytes .entry)) .answer ⌝ }
     ensures events { λ _. ⌜ now (events .exit) ≡ laid 0 (reading-of (room-in (now (events .entry)) (now (activities .entry)) (now (lots .entry)) (now (steps .entry))) (now (bytes .entry)) .events) (now (events .entry)) ⌝ }
     ensures activities { λ _. ⌜ now (activities .exit) ≡ laid 0 (reading-of (room-in (now (events .entry)) (now (activities .entry)) (now (lots .entry)) (now (steps .entry))) (now (bytes .entry)) .activities) (now (activities .entry)) ⌝ }

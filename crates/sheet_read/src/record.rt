@@ -45,7 +45,12 @@ fn event_from(period: u16, numbers: (u16, u16, u16, u16)) -> Option<Event>
     if tolerance > period {
         return None;
     }
-    Some(Event { truck, site, side, tolerance })
+    Some(Event {
+        truck,
+        site,
+        side,
+        tolerance,
+    })
 }
 
 /// Reads one event of a sheet with this period.
@@ -100,12 +105,25 @@ fn activity_from(events: &[Event], numbers: (u16, u16, u16, u16)) -> Option<Acti
 {
     let (kind, tail, head, margin) = numbers;
     let kind = kind_from(kind)?;
-    let activity = Activity { kind, tail, head, margin };
-    if activity_keeps(events, activity) { Some(activity) } else { None }
+    let activity = Activity {
+        kind,
+        tail,
+        head,
+        margin,
+    };
+    if activity_keeps(events, activity) {
+        Some(activity)
+    } else {
+        None
+    }
 }
 
 /// Reads one activity of a sheet with these events.
-pub(crate) fn read_activity<'b>(bytes: &'b [u8], at: Spot, events: &[Event]) -> Result<(Activity, &'b [u8]), RecordFault>
+pub(crate) fn read_activity<'b>(
+    bytes: &'b [u8],
+    at: Spot,
+    events: &[Event],
+) -> Result<(Activity, &'b [u8]), RecordFault>
     ensures { λ r. ⌜ mapped with-rest (λ e. e) r ≡ activity-of (now (events .entry)) at (now (bytes .entry)) ⌝ }
 {
     let (numbers, rest) = take_four(bytes, at)?;
@@ -140,7 +158,11 @@ fn head_from(class: u16, parcels: u16, count: u16) -> Option<LotHead>
     if parcels < 1 || count < 1 || count > 32 {
         return None;
     }
-    Some(LotHead { class, parcels, count })
+    Some(LotHead {
+        class,
+        parcels,
+        count,
+    })
 }
 
 /// Reads a lot's three numbers.
@@ -169,7 +191,12 @@ fn step_keeps(activities: &[Activity], from: Option<u16>, step: u16) -> bool
 }
 
 /// Reads one step of a lot that has come to the event `from`, if it has begun.
-pub(crate) fn read_step<'b>(bytes: &'b [u8], at: Spot, activities: &[Activity], from: Option<u16>) -> Result<(u16, &'b [u8]), RecordFault>
+pub(crate) fn read_step<'b>(
+    bytes: &'b [u8],
+    at: Spot,
+    activities: &[Activity],
+    from: Option<u16>,
+) -> Result<(u16, &'b [u8]), RecordFault>
     ensures { λ r. ⌜ mapped with-rest (λ e. e) r ≡ step-of (now (activities .entry)) from at (now (bytes .entry)) ⌝ }
 {
     let (step, rest) = take_number(bytes, at)?;

@@ -29,7 +29,11 @@ use sheet::records::Event;
 pub(crate) fn spot(section: Section, record: u16, total: usize, rest: &[u8]) -> Spot
     ensures { λ r. ⌜ r ≡ spot-at section «record» total (now (rest .entry)) ⌝ }
 {
-    Spot { section, record, place: total.saturating_sub(rest.len()) }
+    Spot {
+        section,
+        record,
+        place: total.saturating_sub(rest.len()),
+    }
 }
 
 impl Section {
@@ -56,7 +60,12 @@ impl Section {
 }
 
 /// Reads a section's count, for a table of `cells` cells.
-pub(crate) fn read_count(bytes: &[u8], section: Section, total: usize, cells: usize) -> Result<(u16, &[u8]), SheetFault>
+pub(crate) fn read_count(
+    bytes: &[u8],
+    section: Section,
+    total: usize,
+    cells: usize,
+) -> Result<(u16, &[u8]), SheetFault>
     ensures { λ r. ⌜ mapped with-rest (λ e. e) r ≡ count-of section total cells (now (bytes .entry)) ⌝ }
 {
     let at = spot(section, 0, total, bytes);
@@ -114,7 +123,14 @@ pub(crate) impl<'e> RecordReader for ActivityReader<'e> as ActivityRecords {
 }
 
 /// Reads `count` records into the front of `table`.
-pub(crate) fn read_records<'b, R: RecordReader>(reader: &R, section: Section, total: usize, count: u16, bytes: &'b [u8], table: &mut [R::Item]) -> Result<&'b [u8], RecordFault>
+pub(crate) fn read_records<'b, R: RecordReader>(
+    reader: &R,
+    section: Section,
+    total: usize,
+    count: u16,
+    bytes: &'b [u8],
+    table: &mut [R::Item],
+) -> Result<&'b [u8], RecordFault>
     requires { ⌜ count ≤ length (now table) ⌝ }
     ensures answer { λ r. ⌜ mapped now (λ e. e) r ≡ records-of (R·RecordReader .reads (now (reader .entry))) section total 0 count (now (bytes .entry)) .1 ⌝ }
     ensures cells { λ _. ⌜ now (table .exit) ≡ laid 0 (records-of (R·RecordReader .reads (now (reader .entry))) section total 0 count (now (bytes .entry)) .0) (now (table .entry)) ⌝ }
@@ -130,7 +146,13 @@ pub(crate) fn read_records<'b, R: RecordReader>(reader: &R, section: Section, to
 }
 
 /// Reads a section whose records fill the front of `table`, and says how many there are.
-pub(crate) fn read_section<'b, R: RecordReader>(reader: &R, section: Section, total: usize, bytes: &'b [u8], table: &mut [R::Item]) -> Result<(u16, &'b [u8]), SheetFault>
+pub(crate) fn read_section<'b, R: RecordReader>(
+    reader: &R,
+    section: Section,
+    total: usize,
+    bytes: &'b [u8],
+    table: &mut [R::Item],
+) -> Result<(u16, &'b [u8]), SheetFault>
     ensures answer { λ r. ⌜ mapped with-rest (λ e. e) r ≡ section-of (R·RecordReader .reads (now (reader .entry))) section total (length (now (table .entry))) (now (bytes .entry)) .1 ⌝ }
     ensures cells { λ _. ⌜ now (table .exit) ≡ laid 0 (section-of (R·RecordReader .reads (now (reader .entry))) section total (length (now (table .entry))) (now (bytes .entry)) .0) (now (table .entry)) ⌝ }
 {
@@ -140,17 +162,39 @@ pub(crate) fn read_section<'b, R: RecordReader>(reader: &R, section: Section, to
 }
 
 /// Reads the section of the events of a sheet with this period.
-pub(crate) fn read_events<'b>(bytes: &'b [u8], total: usize, period: u16, table: &mut [Event]) -> Result<(u16, &'b [u8]), SheetFault>
+pub(crate) fn read_events<'b>(
+    bytes: &'b [u8],
+    total: usize,
+    period: u16,
+    table: &mut [Event],
+) -> Result<(u16, &'b [u8]), SheetFault>
     ensures answer { λ r. ⌜ mapped with-rest (λ e. e) r ≡ section-of (event-of period) Events total (length (now (table .entry))) (now (bytes .entry)) .1 ⌝ }
     ensures cells { λ _. ⌜ now (table .exit) ≡ laid 0 (section-of (event-of period) Events total (length (now (table .entry))) (now (bytes .entry)) .0) (now (table .entry)) ⌝ }
 {
-    read_section(&EventReader { period }, Section::Events, total, bytes, table)
+    read_section(
+        &EventReader { period },
+        Section::Events,
+        total,
+        bytes,
+        table,
+    )
 }
 
 /// Reads the section of the activities of a sheet with these events.
-pub(crate) fn read_activities<'b>(bytes: &'b [u8], total: usize, events: &[Event], table: &mut [Activity]) -> Result<(u16, &'b [u8]), SheetFault>
+pub(crate) fn read_activities<'b>(
+    bytes: &'b [u8],
+    total: usize,
+    events: &[Event],
+    table: &mut [Activity],
+) -> Result<(u16, &'b [u8]), SheetFault>
     ensures answer { λ r. ⌜ mapped with-rest (λ e. e) r ≡ section-of (activity-of (now (events .entry))) Activities total (length (now (table .entry))) (now (bytes .entry)) .1 ⌝ }
     ensures cells { λ _. ⌜ now (table .exit) ≡ laid 0 (section-of (activity-of (now (events .entry))) Activities total (length (now (table .entry))) (now (bytes .entry)) .0) (now (table .entry)) ⌝ }
 {
-    read_section(&ActivityReader { events }, Section::Activities, total, bytes, table)
+    read_section(
+        &ActivityReader { events },
+        Section::Activities,
+        total,
+        bytes,
+        table,
+    )
 }

@@ -1,10 +1,9 @@
 -- What is written of a sheet is read back as that sheet.
-use mathlib.Core.Path.{_≡_, refl, sym, ap, subst, _∙_}
-use mathlib.Core.Bool.{Bool, true, false, cond, _&&_}
+use mathlib.Core.Path.{_≡_, refl, sym, ap, _∙_}
+use mathlib.Core.Bool.{Bool, true, _&&_}
 use mathlib.Core.List.{List, [], _∷_, _++_, map}
-use Prim.Native.Nat.{ℕ, zero, suc, _+_, _*_, _/_, _%_, _-_, _<_, _≤_}
+use Prim.Native.Nat.{ℕ, suc, _+_, _*_, _/_, _%_, _-_, _≤_}
 use native.Mathlib.Omega.{arith}
-use lib.Dec.{ltb}
 use lib.ListN.{length, take, drop, length-drop}
 use Rattle.std.specs.Joined.{joined}
 use Rattle.std.proofs.shelf.Lists.{append-assoc, append-nil, length-take-le, take-append-drop, drop-drop, nil-from-length}
@@ -12,7 +11,7 @@ use Rattle.std.proofs.shelf.Tests.{and-parts, le-ltb, eqb-true, leb-true}
 use Rattle.std.specs.declared.option.Option.{Option}
 use Rattle.std.specs.declared.option.Option.the-variants.{Some, None}
 use Rattle.std.specs.declared.result.Result.{Result}
-use Rattle.std.specs.declared.result.Result.the-variants.{Ok, Err}
+use Rattle.std.specs.declared.result.Result.the-variants.{Ok}
 use Rattle.sheet.specs.declared.records.Side.{Side}
 use Rattle.sheet.specs.declared.records.Side.the-variants.{Arrival, Departure}
 use Rattle.sheet.specs.declared.records.Kind.{Kind}
@@ -24,20 +23,19 @@ use Rattle.sheet.specs.declared.records.Activity.{Activity}
 use Rattle.sheet.specs.declared.records.Lot.{Lot}
 use Rattle.sheet.specs.Rules.{Tables, every, event-keeps, activity-keeps, lot-keeps, path-keeps, step-keeps, period-keeps, lots-keep, stretch, well-formed}
 use Rattle.sheet.specs.Bytes.{number-bytes, four-bytes, side-number, kind-number, class-number, event-bytes, activity-bytes, lot-bytes, section-bytes, bytes-of}
-use Rattle.sheet.proofs.Stretches.{kept-of, First, first-of}
+use Rattle.sheet.proofs.Stretches.{kept-of, first-of}
 use Rattle.sheet_read.specs.declared.fault.Section.{Section}
 use Rattle.sheet_read.specs.declared.fault.Section.the-variants.{Terms, Events, Activities, Lots}
 use Rattle.sheet_read.specs.declared.fault.Spot.{Spot}
 use Rattle.sheet_read.specs.declared.fault.ReaderFault.{ReaderFault}
 use Rattle.sheet_read.specs.declared.fault.RecordFault.{RecordFault}
 use Rattle.sheet_read.specs.declared.fault.SheetFault.{SheetFault}
-use Rattle.sheet_read.specs.declared.fault.SheetFault.the-variants.{Bounds, Table}
 use Rattle.sheet_read.specs.declared.«record».LotHead.{LotHead}
 use Rattle.sheet_read.specs.Numbers.{then, number-of, four-of}
-use Rattle.sheet_read.specs.Records.{in-record, passed, ruled, side-of, kind-of, class-of, event-with, event-from, event-of, activity-with, activity-from, activity-of, head-with, head-from, head-of, step-of, period-of}
-use Rattle.sheet_read.specs.Sections.{spot-at, run, placed, next-number, records-of, fewest, most, at-count, counted, count-of, in-sheet, section-from, section-of}
-use Rattle.sheet_read.specs.Lots.{lot-step, step-on, steps-from, room-for, LotRead, lot-made, lot-with, lot-in, lot-after, lot-of, next-lot, lots-of, lot-only, steps-only, lots-answer, lots-read, steps-read}
-use Rattle.sheet_read.specs.Sheets.{Room, Reading, LotsReading, closed, lots-section-from, lots-section-of, lots-then, activities-then, events-then, terms-of, terms-then, reading-of}
+use Rattle.sheet_read.specs.Records.{in-record, passed, ruled, event-from, event-of, activity-from, activity-of, head-from, head-of, period-of}
+use Rattle.sheet_read.specs.Sections.{spot-at, run, placed, next-number, fewest, most, at-count, counted, count-of, in-sheet, section-from, section-of}
+use Rattle.sheet_read.specs.Lots.{lot-step, step-on, steps-from, room-for, LotRead, lot-with, lot-in, lot-after, lot-of, next-lot, lots-of, lot-only, steps-only, lots-answer, lots-read, steps-read}
+use Rattle.sheet_read.specs.Sheets.{Room, LotsReading, closed, lots-section-from, lots-section-of, lots-then, activities-then, events-then, terms-of, terms-then, reading-of}
 use Rattle.sheet_write.specs.Writing.{Has-room, whole-reading}
 use Rattle.sheet_read.proofs.Running.{run-more, after}
 
@@ -59,7 +57,7 @@ kept : {A : Type 0} (test : Bool) (x : A) → test ≡ true → passed test x �
 kept test x h = ap (λ (b : Bool). passed b x) h
 
 event-made : (period truck site tolerance : ℕ) (side : Side) → event-keeps period (record { truck = truck; site = site; side = side; tolerance = tolerance }) ≡ true
-  → event-from period (truck, site, side-number side, tolerance) ≡ Some (record { truck = truck; site = site; side = side; tolerance = tolerance })
+    → event-from period (truck, site, side-number side, tolerance) ≡ Some (record { truck = truck; site = site; side = side; tolerance = tolerance })
 event-made period truck site tolerance Arrival h = kept _ _ h
 event-made period truck site tolerance Departure h = kept _ _ h
 
@@ -69,7 +67,7 @@ event-back period at e rest h =
     ∙ ap {B = Result (Event × List ℕ) RecordFault} (λ (o : Option Event). then (ruled at o) (λ x. Ok (x, rest))) (event-made period (e .truck) (e .site) (e .tolerance) (e .side) h)
 
 activity-made : (events : List Event) (kind : Kind) (tail head margin : ℕ) → activity-keeps events (record { kind = kind; tail = tail; head = head; margin = margin }) ≡ true
-  → activity-from events (kind-number kind, tail, head, margin) ≡ Some (record { kind = kind; tail = tail; head = head; margin = margin })
+    → activity-from events (kind-number kind, tail, head, margin) ≡ Some (record { kind = kind; tail = tail; head = head; margin = margin })
 activity-made events Drive tail head margin h = kept _ _ h
 activity-made events Stand tail head margin h = kept _ _ h
 activity-made events Transfer tail head margin h = kept _ _ h
@@ -90,7 +88,7 @@ head-made Ordinary parcels count h = kept _ _ h
 head-made Express parcels count h = kept _ _ h
 
 head-back : (at : Spot) (class : Class) (parcels count : ℕ) (rest : List ℕ) → lot-keeps parcels count ≡ true
-  → head-of at (number-bytes (class-number class) ++ (number-bytes parcels ++ (number-bytes count ++ rest))) ≡ Ok (record { class = class; parcels = parcels; count = count }, rest)
+    → head-of at (number-bytes (class-number class) ++ (number-bytes parcels ++ (number-bytes count ++ rest))) ≡ Ok (record { class = class; parcels = parcels; count = count }, rest)
 head-back at class parcels count rest h =
     rw (back (class-number class), back parcels, back count)
     (ap {B = Result (LotHead × List ℕ) RecordFault} (λ (o : Option LotHead). then (ruled at o) (λ x. Ok (x, rest))) (head-made class parcels count h))
@@ -98,8 +96,8 @@ head-back at class parcels count rest h =
 -- ---- one after another
 
 module _ {A S E : Type 0} (read : S → List ℕ → Result (A × List ℕ) E) (next : S → A → S) (each-bytes : A → List ℕ) (keeps : S → A → Bool) (all-keep : S → List A → Bool)
-  (more : (s : S) (x : A) (xs : List A) → all-keep s (x ∷ xs) ≡ (keeps s x && all-keep (next s x) xs))
-  (each : (s : S) (x : A) (rest : List ℕ) → keeps s x ≡ true → read s (each-bytes x ++ rest) ≡ Ok (x, rest)) where
+    (more : (s : S) (x : A) (xs : List A) → all-keep s (x ∷ xs) ≡ (keeps s x && all-keep (next s x) xs))
+    (each : (s : S) (x : A) (rest : List ℕ) → keeps s x ≡ true → read s (each-bytes x ++ rest) ≡ Ok (x, rest)) where
   pub run-back : (s : S) (xs : List A) (rest : List ℕ) → all-keep s xs ≡ true → run read next s (length xs) (joined each-bytes xs ++ rest) ≡ (xs, Ok rest)
   run-back s [] rest h = refl
   run-back s (x ∷ xs) rest h =
@@ -117,9 +115,9 @@ count-back section total cells n rest l h r =
     ∙ counted-back section cells (spot-at section 0 total (number-bytes n ++ rest)) n rest l h r
 
 module _ {A : Type 0} (read : Spot → List ℕ → Result (A × List ℕ) RecordFault) (each-bytes : A → List ℕ) (keeps : A → Bool)
-  (each : (at : Spot) (x : A) (rest : List ℕ) → keeps x ≡ true → read at (each-bytes x ++ rest) ≡ Ok (x, rest)) where
+    (each : (at : Spot) (x : A) (rest : List ℕ) → keeps x ≡ true → read at (each-bytes x ++ rest) ≡ Ok (x, rest)) where
   pub section-back : (section : Section) (total cells : ℕ) (xs : List A) (rest : List ℕ) → fewest section ≤ length xs → length xs ≤ most section → length xs ≤ cells → every keeps xs ≡ true
-    → section-of read section total cells (section-bytes each-bytes xs ++ rest) ≡ (xs, Ok (length xs, rest))
+      → section-of read section total cells (section-bytes each-bytes xs ++ rest) ≡ (xs, Ok (length xs, rest))
   section-back section total cells xs rest l h r k =
       let c = count-back section total cells (length xs) (joined each-bytes xs ++ rest) l h r in
       let g = run-back (placed read section total) next-number each-bytes (λ i. keeps) (λ i. every keeps) (λ i x ys. refl) (λ i x ys. each (spot-at section i total (each-bytes x ++ ys)) x ys) 0 xs rest k in
@@ -155,17 +153,17 @@ found ls ss n m = record { lots = ls; steps = ss; answer = Ok (n, m) }
 
 module _ (activities : List Activity) (total cells : ℕ) where
   lot-back : (lot used : ℕ) (l : Lot) (own rest : List ℕ) → lot-keeps (l .parcels) (l .count) ≡ true → l .first ≡ used → length own ≡ l .count → path-keeps activities None own ≡ true
-    → used + l .count ≤ 4096 → used + l .count ≤ cells
-    → lot-of activities total cells (lot, used) (number-bytes (class-number (l .class)) ++ (number-bytes (l .parcels) ++ (number-bytes (l .count) ++ (joined number-bytes own ++ rest)))) ≡ Ok ((l, own), rest)
+      → used + l .count ≤ 4096 → used + l .count ≤ cells
+      → lot-of activities total cells (lot, used) (number-bytes (class-number (l .class)) ++ (number-bytes (l .parcels) ++ (number-bytes (l .count) ++ (joined number-bytes own ++ rest)))) ≡ Ok ((l, own), rest)
   lot-back lot used l own rest k f n p b r =
       let bs = number-bytes (class-number (l .class)) ++ (number-bytes (l .parcels) ++ (number-bytes (l .count) ++ (joined number-bytes own ++ rest))) in
       let at = spot-at Lots lot total bs in
       let head : LotHead = record { class = l .class; parcels = l .parcels; count = l .count } in
       let h = head-back at (l .class) (l .parcels) (l .count) (joined number-bytes own ++ rest) k in
       let s : steps-from activities lot total (l .count) (joined number-bytes own ++ rest) ≡ (own, Ok rest) =
-            ap (λ (j : ℕ). steps-from activities lot total j (joined number-bytes own ++ rest)) (sym n)
-            ∙ run-back (lot-step activities lot total) (step-on activities) number-bytes (step-keeps activities) (path-keeps activities) (λ s x xs. refl)
-                (λ s x xs. ruled-back (step-keeps activities s) (spot-at Lots lot total (number-bytes x ++ xs)) x xs) None own rest p in
+      ap (λ (j : ℕ). steps-from activities lot total j (joined number-bytes own ++ rest)) (sym n)
+      ∙ run-back (lot-step activities lot total) (step-on activities) number-bytes (step-keeps activities) (path-keeps activities) (λ s x xs. refl)
+      (λ s x xs. ruled-back (step-keeps activities s) (spot-at Lots lot total (number-bytes x ++ xs)) x xs) None own rest p in
       ap (lot-after activities total cells lot used at) h
       ∙ ap (lot-in activities total lot used (head, joined number-bytes own ++ rest)) (room-back at cells used (l .count) b r)
       ∙ ap (lot-with used head) s
@@ -173,7 +171,7 @@ module _ (activities : List Activity) (total cells : ℕ) where
 
   -- the lots from step `first` on, of which `left` are the steps
   lots-back : (i first : ℕ) (ls : List Lot) (steps left rest : List ℕ) → lots-keep activities first ls left ≡ true → drop first steps ≡ left → first + length left ≤ 4096 → first + length left ≤ cells
-    → run (lot-of activities total cells) next-lot (i, first) (length ls) (joined (lot-bytes steps) ls ++ rest) ≡ (with-steps ls left, Ok rest)
+      → run (lot-of activities total cells) next-lot (i, first) (length ls) (joined (lot-bytes steps) ls ++ rest) ≡ (with-steps ls left, Ok rest)
   lots-back i first [] steps left rest h d b r = refl
   lots-back i first (l ∷ ls) steps left rest h d b r =
       let f = first-of activities first l ls left h in
@@ -183,25 +181,25 @@ module _ (activities : List Activity) (total cells : ℕ) where
       let m = length-drop (l .count) left in
       let one = lot-back i first l (take (l .count) left) behind (f .lot) (f .starts) n (f .path) (omega (arith, f .within, b)) (omega (arith, f .within, r)) in
       let others = lots-back (i + 1) (first + l .count) ls steps (drop (l .count) left) rest (f .others) (sym (drop-drop (l .count) first steps) ∙ ap (drop (l .count)) d)
-                     (omega (arith, f .within, b, m)) (omega (arith, f .within, r, m)) in
+      (omega (arith, f .within, b, m)) (omega (arith, f .within, r, m)) in
       let front = number-bytes (class-number (l .class)) ++ (number-bytes (l .parcels) ++ number-bytes (l .count)) in
       let shape : joined (lot-bytes steps) (l ∷ ls) ++ rest ≡ front ++ (joined number-bytes (take (l .count) left) ++ behind) =
-            append-assoc (lot-bytes steps l) (joined (lot-bytes steps) ls) rest
-            ∙ ap (λ (ys : List ℕ). (front ++ joined number-bytes ys) ++ behind) own
-            ∙ append-assoc front (joined number-bytes (take (l .count) left)) behind in
+      append-assoc (lot-bytes steps l) (joined (lot-bytes steps) ls) rest
+      ∙ ap (λ (ys : List ℕ). (front ++ joined number-bytes ys) ++ behind) own
+      ∙ append-assoc front (joined number-bytes (take (l .count) left)) behind in
       ap (run (lot-of activities total cells) next-lot (i, first) (suc (length ls))) shape
       ∙ run-more (lot-of activities total cells) next-lot (i, first) (length ls) (front ++ (joined number-bytes (take (l .count) left) ++ behind)) (l, take (l .count) left) behind one
       ∙ ap (after ((l, take (l .count) left) ∷ [])) others
 
   pub lots-section-back : (lot-cells : ℕ) (ls : List Lot) (steps : List ℕ) → lots-keep activities 0 ls steps ≡ true → length ls ≤ 512 → length ls ≤ lot-cells → length steps ≤ 4096 → length steps ≤ cells
-    → lots-section-of activities total lot-cells cells (section-bytes (lot-bytes steps) ls) ≡ record { lots = ls; steps = steps; answer = Ok (length ls, length steps) }
+      → lots-section-of activities total lot-cells cells (section-bytes (lot-bytes steps) ls) ≡ record { lots = ls; steps = steps; answer = Ok (length ls, length steps) }
   lots-section-back lot-cells ls steps k h c b r =
       let n = length ls in
       let items = with-steps ls steps in
       let j = steps-alone activities 0 ls steps k in
       let count = count-back Lots total lot-cells n (joined (lot-bytes steps) ls) (omega arith) h c in
       let ran : lots-of activities total cells n (joined (lot-bytes steps) ls) ≡ (items, Ok []) =
-            ap (lots-of activities total cells n) (sym (append-nil (joined (lot-bytes steps) ls))) ∙ lots-back 0 0 ls steps steps [] k refl (omega (arith, b)) (omega (arith, r)) in
+      ap (lots-of activities total cells n) (sym (append-nil (joined (lot-bytes steps) ls))) ∙ lots-back 0 0 ls steps steps [] k refl (omega (arith, b)) (omega (arith, r)) in
       ap (lots-section-from activities total cells) count
       ∙ ap (λ (l : List (Lot × List ℕ) × Result (List ℕ) (List ℕ × SheetFault)). lots-found total n l) ran
       ∙ ap (λ (xs : List Lot). found xs (joined steps-only items ++ []) n (length (joined steps-only items))) (lots-alone ls steps)
@@ -217,7 +215,7 @@ sizes t h =
     let e = and-parts _ _ (a .0) in
     let b = and-parts _ _ (a .1) in
     let c = and-parts _ _ (b .1) in
-    ( leb-true 1 (length (t .events)) (e .0), leb-true (length (t .events)) 512 (e .1), leb-true (length (t .activities)) 1024 (b .0), leb-true (length (t .lots)) 512 (c .0), leb-true (length (t .steps)) 4096 (c .1) )
+    (leb-true 1 (length (t .events)) (e .0), leb-true (length (t .events)) 512 (e .1), leb-true (length (t .activities)) 1024 (b .0), leb-true (length (t .lots)) 512 (c .0), leb-true (length (t .steps)) 4096 (c .1))
 
 module _ (t : Tables) (h : well-formed t ≡ true) (room : Room) (r : Has-room room t) where
   pub read-back : reading-of room (bytes-of t) ≡ whole-reading t
@@ -229,8 +227,8 @@ module _ (t : Tables) (h : well-formed t ≡ true) (room : Room) (r : Has-room r
       let x₂ = section-bytes activity-bytes (t .activities) ++ x₃ in
       let x₁ = section-bytes event-bytes (t .events) ++ x₂ in
       let terms : terms-of total (bytes-of t) ≡ Ok (t .period, x₁) =
-            ap {B = Result (ℕ × List ℕ) SheetFault} (λ (o : Result (ℕ × List ℕ) SheetFault). then o (λ p. in-sheet (period-of (spot-at Terms 0 total (p .1)) (p .1)))) (count-back Terms total 1 1 (number-bytes (t .period) ++ x₁) (omega arith) (omega arith) (omega arith))
-            ∙ ap {B = Result (ℕ × List ℕ) SheetFault} (λ (o : Result (ℕ × List ℕ) RecordFault). in-sheet o) (ruled-back period-keeps (spot-at Terms 0 total (number-bytes (t .period) ++ x₁)) (t .period) x₁ (k .period)) in
+      ap {B = Result (ℕ × List ℕ) SheetFault} (λ (o : Result (ℕ × List ℕ) SheetFault). then o (λ p. in-sheet (period-of (spot-at Terms 0 total (p .1)) (p .1)))) (count-back Terms total 1 1 (number-bytes (t .period) ++ x₁) (omega arith) (omega arith) (omega arith))
+      ∙ ap {B = Result (ℕ × List ℕ) SheetFault} (λ (o : Result (ℕ × List ℕ) RecordFault). in-sheet o) (ruled-back period-keeps (spot-at Terms 0 total (number-bytes (t .period) ++ x₁)) (t .period) x₁ (k .period)) in
       let events = section-back (event-of (t .period)) event-bytes (event-keeps (t .period)) (event-back (t .period)) Events total (room .events) (t .events) x₂ (s .0) (s .1) (r .0 .0) (k .events) in
       let activities = section-back (activity-of (t .events)) activity-bytes (activity-keeps (t .events)) (activity-back (t .events)) Activities total (room .activities) (t .activities) x₃ (omega arith) (s .2) (r .0 .1) (k .activities) in
       let lots = lots-section-back (t .activities) total (room .steps) (room .lots) (t .lots) (t .steps) (k .lots) (s .3) (r .1 .0) (s .4) (r .1 .1) in

@@ -2,7 +2,7 @@
 use mathlib.Core.Path.{_≡_, refl, sym, ap, _∙_}
 use mathlib.Core.Bool.{true}
 use mathlib.Core.List.{List, [], _∷_, _++_}
-use Prim.Native.Nat.{ℕ, zero, suc, _+_, _*_, _-_, _≤_, _<_}
+use Prim.Native.Nat.{ℕ, suc, _+_, _*_, _-_}
 use native.Mathlib.Omega.{arith}
 use lib.ListN.{length, take, drop, length-append, length-drop}
 use Rattle.std.specs.Joined.{joined}
@@ -32,7 +32,7 @@ joined-length f k h (x ∷ xs) =
 
 -- six bytes a lot, and two for each of its steps
 lots-length : (activities : List Activity) (first : ℕ) (ls : List Lot) (left steps : List ℕ) → lots-keep activities first ls left ≡ true → drop first steps ≡ left
-  → length (joined (lot-bytes steps) ls) ≡ 6 * length ls + 2 * length left
+    → length (joined (lot-bytes steps) ls) ≡ 6 * length ls + 2 * length left
 lots-length activities first [] left steps h d = let z = eqb-true (length left) 0 h in omega (arith, z)
 lots-length activities first (l ∷ ls) left steps h d =
     let f = first-of activities first l ls left h in
@@ -45,7 +45,7 @@ lots-length activities first (l ∷ ls) left steps h d =
 
 -- the parts of a sheet's bytes
 pub parts-length : (t : Tables) → length (bytes-of t)
-  ≡ 4 + (length (section-bytes event-bytes (t .events)) + (length (section-bytes activity-bytes (t .activities)) + (2 + length (joined (lot-bytes (t .steps)) (t .lots)))))
+    ≡ 4 + (length (section-bytes event-bytes (t .events)) + (length (section-bytes activity-bytes (t .activities)) + (2 + length (joined (lot-bytes (t .steps)) (t .lots)))))
 parts-length t =
     let e = length-append (section-bytes event-bytes (t .events)) (section-bytes activity-bytes (t .activities) ++ section-bytes (lot-bytes (t .steps)) (t .lots)) in
     let a = length-append (section-bytes activity-bytes (t .activities)) (section-bytes (lot-bytes (t .steps)) (t .lots)) in

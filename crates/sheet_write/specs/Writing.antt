@@ -35,12 +35,13 @@ Has-room room t = ((length (t .events) ≤ room .events) × (length (t .activiti
 
 -- the reading that gives just these tables
 abbrev pub whole-reading : Tables → Reading
-whole-reading t = record
-    { events = t .events
-    ; activities = t .activities
-    ; lots = t .lots
-    ; steps = t .steps
-    ; answer = Ok (extent (t .period) (length (t .events)) (length (t .activities)) (length (t .lots), length (t .steps))) }
+whole-reading t = record {
+  events = t .events;
+  activities = t .activities;
+  lots = t .lots;
+  steps = t .steps;
+  answer = Ok (extent (t .period) (length (t .events)) (length (t .activities)) (length (t .lots), length (t .steps)));
+}
 
 -- bytes that are read as these tables, whatever tables of enough room they are read into
 abbrev pub Reads-back : Tables → List ℕ → Type 0

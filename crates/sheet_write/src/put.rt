@@ -87,7 +87,14 @@ pub(crate) impl Packed for Event as PackedEvent {
     ghost bytes = { event-bytes };
 
     fn put(self, out: &mut [u8], at: usize) -> usize {
-        put_four(out, at, self.truck, self.site, side_number(self.side), self.tolerance)
+        put_four(
+            out,
+            at,
+            self.truck,
+            self.site,
+            side_number(self.side),
+            self.tolerance,
+        )
     }
 }
 
@@ -95,7 +102,14 @@ pub(crate) impl Packed for Activity as PackedActivity {
     ghost bytes = { activity-bytes };
 
     fn put(self, out: &mut [u8], at: usize) -> usize {
-        put_four(out, at, kind_number(self.kind), self.tail, self.head, self.margin)
+        put_four(
+            out,
+            at,
+            kind_number(self.kind),
+            self.tail,
+            self.head,
+            self.margin,
+        )
     }
 }
 

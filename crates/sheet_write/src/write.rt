@@ -69,7 +69,10 @@ fn put_lots(lots: &[Lot], steps: &[u16], out: &mut [u8], at: usize) -> usize
 fn size_of(sheet: &Sheet) -> usize
     ensures { λ r. ⌜ r ≡ length (bytes-of (tables-of (now (sheet .entry)))) ⌝ }
 {
-    10 + 8 * (sheet.events.len() + sheet.activities.len()) + 6 * sheet.lots.len() + 2 * sheet.steps.len()
+    10
+        + 8 * (sheet.events.len() + sheet.activities.len())
+        + 6 * sheet.lots.len()
+        + 2 * sheet.steps.len()
 }
 
 /// Puts a sheet's sections into the front of `out`, if they have room there.

@@ -13,11 +13,23 @@ use crate::sheet::Sheet;
 
 impl<'a> Sheet<'a> {
     /// A sheet of these tables, which have to keep every rule: reading gives such tables.
-    pub fn new(period: u16, events: &'a [Event], activities: &'a [Activity], lots: &'a [Lot], steps: &'a [u16]) -> Sheet<'a>
+    pub fn new(
+        period: u16,
+        events: &'a [Event],
+        activities: &'a [Activity],
+        lots: &'a [Lot],
+        steps: &'a [u16],
+    ) -> Sheet<'a>
         requires { ⌜ well-formed (tables period (now events) (now activities) (now lots) (now steps)) ≡ true ⌝ }
         ensures { λ r. ⌜ tables-of r ≡ tables period (now (events .entry)) (now (activities .entry)) (now (lots .entry)) (now (steps .entry)) ⌝ }
     {
-        Sheet { period, events, activities, lots, steps }
+        Sheet {
+            period,
+            events,
+            activities,
+            lots,
+            steps,
+        }
     }
 
     /// The steps of lot number `lot`, a stretch of the step table; none where there is no such lot.

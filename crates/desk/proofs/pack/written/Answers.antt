@@ -31,9 +31,9 @@ returns-in-Ok c =
     let room : length bs ≤ c .in-Continue-bytes .bytes .len = omega (arith, c .as-mut-slice .ensures .len) in
     record {
       whole =
-        c .truncate .ensures .items
-        ∙ ap (λ (n : ℕ). take n (take (c .in-Continue-bytes .bytes .len) (c .write-sheet .last .out ++ drop (length (c .write-sheet .last .out)) (c .in-Continue-bytes .bytes .items)))) (known .1)
-        ∙ ap (λ (out : List ℕ). take (length bs) (take (c .in-Continue-bytes .bytes .len) (out ++ drop (length (c .write-sheet .last .out)) (c .in-Continue-bytes .bytes .items)))) (c .in-Ok .ensures tt .bytes)
-        ∙ front bs (drop (length bs) (c .as-mut-slice .result .now)) (drop (length (c .write-sheet .last .out)) (c .in-Continue-bytes .bytes .items)) (c .in-Continue-bytes .bytes .len) room;
+          c .truncate .ensures .items
+          ∙ ap (λ (n : ℕ). take n (take (c .in-Continue-bytes .bytes .len) (c .write-sheet .last .out ++ drop (length (c .write-sheet .last .out)) (c .in-Continue-bytes .bytes .items)))) (known .1)
+          ∙ ap (λ (out : List ℕ). take (length bs) (take (c .in-Continue-bytes .bytes .len) (out ++ drop (length (c .write-sheet .last .out)) (c .in-Continue-bytes .bytes .items)))) (c .in-Ok .ensures tt .bytes)
+          ∙ front bs (drop (length bs) (c .as-mut-slice .result .now)) (drop (length (c .write-sheet .last .out)) (c .in-Continue-bytes .bytes .items)) (c .in-Continue-bytes .bytes .len) room;
       memory = tt;
     }

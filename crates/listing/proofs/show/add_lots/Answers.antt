@@ -31,10 +31,12 @@ pub loop-i-again : need.loop-i-again
 loop-i-again c =
     let t = tables-of (c .args .sheet .now) in
     let lot = lot-at (t .lots) (c .loop-i .i) in
-    elim (c .match-steps-of .came) [ in-Some·in-Continue-writeln w ↦
-        grows (ended-lot (t .steps)) (string-bytes (c .args .text .now)) (string-bytes (c .loop-i .text)) (string-bytes (c .match-steps-of .text)) (t .lots) (c .loop-i .i) no-lot (c .loop-i-test .taken) (c .loop-i .inv)
-        (ap string-bytes (w .text-is) ∙ w .in-Continue-writeln .ensures tt .bytes ∙ ap (λ (l : List ℕ). string-bytes (c .loop-i .text) ++ ended (lot-line (lot .class) (lot .parcels) l)) (own-steps t (c .loop-i .i) (w .in-Some .steps .now) (c .loop-i-test .taken) (w .in-Some .ensures tt)))
-    | in-rest w ↦ absurd (never-none t (c .loop-i .i) (c .loop-i-test .taken) (w .in-rest .ensures tt)) ]
+    elim (c .match-steps-of .came) [
+      | in-Some·in-Continue-writeln w ↦
+          grows (ended-lot (t .steps)) (string-bytes (c .args .text .now)) (string-bytes (c .loop-i .text)) (string-bytes (c .match-steps-of .text)) (t .lots) (c .loop-i .i) no-lot (c .loop-i-test .taken) (c .loop-i .inv)
+          (ap string-bytes (w .text-is) ∙ w .in-Continue-writeln .ensures tt .bytes ∙ ap (λ (l : List ℕ). string-bytes (c .loop-i .text) ++ ended (lot-line (lot .class) (lot .parcels) l)) (own-steps t (c .loop-i .i) (w .in-Some .steps .now) (c .loop-i-test .taken) (w .in-Some .ensures tt)))
+      | in-rest w ↦ absurd (never-none t (c .loop-i .i) (c .loop-i-test .taken) (w .in-rest .ensures tt))
+    ]
 
 pub returns : need.returns
 returns c = has-all (ended-lot (c .args .sheet .now .steps .now)) (string-bytes (c .args .text .now)) (string-bytes (c .loop-i .text)) (c .args .sheet .now .lots .now) (c .loop-i .i) (c .loop-i-test .left) (c .loop-i .inv)

@@ -1,6 +1,5 @@
-use mathlib.Core.Path.{_≡_, sym}
+use mathlib.Core.Path.{sym}
 use borrow.Author.Needs.{needs}
-use Rattle.sheet.specs.Laid.{laid}
 use Rattle.sheet.proofs.Laying.{laid-none}
 use Rattle.sheet_read.proofs.lot.read_lot.Needs as need
 

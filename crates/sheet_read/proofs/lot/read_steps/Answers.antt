@@ -1,8 +1,7 @@
-use mathlib.Core.Path.{_≡_, refl, sym, ap, _∙_}
+use mathlib.Core.Path.{_≡_, sym, ap, _∙_}
 use mathlib.Core.List.{List}
-use Prim.Native.Nat.{ℕ, _+_, _≤_, _<_}
+use Prim.Native.Nat.{ℕ, _+_, _<_}
 use native.Mathlib.Omega.{arith}
-use borrow.Author.Needs.{needs}
 use lib.ListN.{length}
 use Rattle.std.proofs.shelf.Results.{err-from-errBy}
 use Rattle.std.specs.declared.option.Option.{Option}
@@ -19,7 +18,7 @@ use Rattle.sheet_read.proofs.lot.read_steps.Needs as need
 
 -- the step that was read, at the spot that it was told
 told : (activities : List Activity) (lot total : ℕ) (from : Option ℕ) (rest : List ℕ) (at : Spot) (o : Result (ℕ × List ℕ) RecordFault)
-  → at ≡ spot-at Lots lot total rest → step-of activities from at rest ≡ o → lot-step activities lot total from rest ≡ o
+    → at ≡ spot-at Lots lot total rest → step-of activities from at rest ≡ o → lot-step activities lot total from rest ≡ o
 told activities lot total from rest at o e h = ap (λ (a : Spot). step-of activities from a rest) (sym e) ∙ h
 
 pub loop-i-holds : need.loop-i-holds

@@ -1,5 +1,4 @@
-use mathlib.Core.Path.{_≡_, sym, _∙_}
-use lib.ListN.{length}
+use mathlib.Core.Path.{sym, _∙_}
 use Rattle.std.proofs.shelf.Elements.{all-from-getD}
 use Prim.Native.Nat.{_<_}
 use Rattle.sheet_read.specs.Sheets.{room-in, Accepted-sheet}
@@ -15,9 +14,14 @@ returns c =
     let ls = c .fill-tables .last .lots in
     let ss = c .fill-tables .last .steps in
     let bs : Bytes (c .args .bytes .now) = all-from-getD (λ b. b < 256) (c .args .bytes .now) 0 (λ i h. c .typed .bytes i .fits) in
-    record
-    { answer = f .answer; events = f .events; activities = f .activities; lots = f .lots; steps = f .steps
-    ; accepted = made-if (λ x. Accepted-sheet (c .args .bytes .now) x es acts ls ss) (c .fill-tables .result) (λ x e.
-        accepted-sheet (room-in (c .args .events .now) (c .args .activities .now) (c .args .lots .now) (c .args .steps .now)) (c .args .bytes .now) x
-        es (c .args .events .now) acts (c .args .activities .now) ls (c .args .lots .now) ss (c .args .steps .now)
-        bs (record { events = f .events; activities = f .activities; lots = f .lots; steps = f .steps }) (sym (f .answer) ∙ e)) }
+    record {
+      answer = f .answer;
+      events = f .events;
+      activities = f .activities;
+      lots = f .lots;
+      steps = f .steps;
+      accepted = made-if (λ x. Accepted-sheet (c .args .bytes .now) x es acts ls ss) (c .fill-tables .result) (λ x e.
+          accepted-sheet (room-in (c .args .events .now) (c .args .activities .now) (c .args .lots .now) (c .args .steps .now)) (c .args .bytes .now) x
+          es (c .args .events .now) acts (c .args .activities .now) ls (c .args .lots .now) ss (c .args .steps .now)
+          bs (record { events = f .events; activities = f .activities; lots = f .lots; steps = f .steps }) (sym (f .answer) ∙ e));
+    }

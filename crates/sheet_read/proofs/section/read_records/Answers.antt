@@ -1,9 +1,7 @@
-use mathlib.Core.Path.{_≡_, refl, sym, ap, _∙_}
-use Prim.Native.Nat.{_+_, _≤_, _<_}
+use mathlib.Core.Path.{sym}
+use Prim.Native.Nat.{_<_}
 use native.Mathlib.Omega.{arith}
-use borrow.Author.Needs.{needs}
 use lib.ListN.{length}
-use Rattle.std.specs.Results.{mapped}
 use Rattle.std.proofs.shelf.Results.{err-from-errBy}
 use Rattle.sheet_read.proofs.Running.{filled-none, filled-more, filled-fault, filled-all, read-ok, read-err}
 use Rattle.sheet_read.proofs.section.read_records.Needs as need

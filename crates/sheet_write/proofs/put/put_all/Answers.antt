@@ -1,4 +1,3 @@
-use mathlib.Core.Path.{_≡_, refl, sym, ap, _∙_}
 use Rattle.sheet_write.proofs.Putting.{put-none, put-room, put-more, put-all}
 use Rattle.sheet_write.proofs.put.put_all.Needs as need
 

@@ -1,4 +1,3 @@
-use mathlib.Core.Path.{_≡_, refl, sym, ap, _∙_}
 use mathlib.Core.List.{_++_}
 use Prim.Native.Nat.{_+_, _≤_}
 use native.Mathlib.Omega.{arith}
@@ -20,6 +19,7 @@ returns c =
     let r : at + 6 ≤ length old = omega (arith, c .pre) in
     let two = laid-then at (c .put-number-at .result) (number-bytes (c .args .a)) (number-bytes (c .args .b)) old _ _ (a .answer) p (a .bytes) (b .bytes) in
     let three = laid-then at (c .put-number-at-2 .result) (number-bytes (c .args .a) ++ number-bytes (c .args .b)) (number-bytes (c .args .c)) old _ _ (omega (arith, a .answer, b .answer)) q two (d .bytes) in
-    record
-    { answer = omega (arith, a .answer, b .answer, d .answer, e .answer)
-    ; bytes = laid-then at (c .put-number-at-3 .result) (number-bytes (c .args .a) ++ (number-bytes (c .args .b) ++ number-bytes (c .args .c))) (number-bytes (c .args .d)) old _ _ (omega (arith, a .answer, b .answer, d .answer)) r three (e .bytes) }
+    record {
+      answer = omega (arith, a .answer, b .answer, d .answer, e .answer);
+      bytes = laid-then at (c .put-number-at-3 .result) (number-bytes (c .args .a) ++ (number-bytes (c .args .b) ++ number-bytes (c .args .c))) (number-bytes (c .args .d)) old _ _ (omega (arith, a .answer, b .answer, d .answer)) r three (e .bytes);
+    }

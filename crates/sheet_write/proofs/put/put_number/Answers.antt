@@ -11,8 +11,9 @@ pub returns : need.returns
 returns c =
     let f = c .fits .number .fits in
     let high : c .args .number / 256 % 256 ≡ c .args .number / 256 = omega (arith, f) in
-    record
-    { answer = refl
-    ; bytes = two-laid (c .args .at) _ _ (c .args .out .now) (c .pre)
-        ∙ ap (λ (bs : List ℕ). laid (c .args .at) (getD bs 0 0 ∷ getD bs 1 0 ∷ []) (c .args .out .now)) (c .to-be-bytes .ensures)
-        ∙ ap (λ (n : ℕ). laid (c .args .at) (n ∷ c .args .number % 256 ∷ []) (c .args .out .now)) high }
+    record {
+      answer = refl;
+      bytes = two-laid (c .args .at) _ _ (c .args .out .now) (c .pre)
+          ∙ ap (λ (bs : List ℕ). laid (c .args .at) (getD bs 0 0 ∷ getD bs 1 0 ∷ []) (c .args .out .now)) (c .to-be-bytes .ensures)
+          ∙ ap (λ (n : ℕ). laid (c .args .at) (n ∷ c .args .number % 256 ∷ []) (c .args .out .now)) high;
+    }

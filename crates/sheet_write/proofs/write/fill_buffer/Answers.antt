@@ -1,7 +1,7 @@
-use mathlib.Core.Path.{_≡_, refl, sym, ap, _∙_}
-use mathlib.Core.Bool.{Bool, true, false, cond}
-use mathlib.Core.List.{List, [], _∷_, _++_}
-use Prim.Native.Nat.{ℕ, _+_, _≤_, _<_}
+use mathlib.Core.Path.{_≡_}
+use mathlib.Core.Bool.{cond}
+use mathlib.Core.List.{[], _∷_, _++_}
+use Prim.Native.Nat.{ℕ, _+_, _≤_}
 use native.Mathlib.Omega.{arith}
 use lib.ListN.{length}
 use lib.Dec.{ltb}
@@ -11,10 +11,8 @@ use Rattle.std.specs.declared.result.Result.{Result}
 use Rattle.std.specs.declared.result.Result.the-variants.{Ok, Err}
 use Rattle.sheet.specs.Sheets.{tables-of}
 use Rattle.sheet.specs.Bytes.{number-bytes, event-bytes, activity-bytes, lot-bytes, section-bytes, bytes-of}
-use Rattle.sheet.specs.Laid.{laid}
 use Rattle.sheet_write.specs.declared.write.WriteFault.{WriteFault}
 use Rattle.sheet_write.specs.declared.write.WriteFault.the-variants.{Short}
-use Rattle.sheet_write.specs.Writing.{written-of}
 use Rattle.sheet_write.proofs.Putting.{laid-then}
 use Rattle.sheet_write.proofs.Sizes.{parts-length, all-within}
 use Rattle.sheet_write.proofs.Back.{sizes}
@@ -31,9 +29,10 @@ pub put-section-at-requires-3 : need.put-section-at-requires-3
 put-section-at-requires-3 c κs =
     let t = tables-of (c .args .sheet .now) in
     let n = parts-length t in
-    let f = sizes t (c .args .sheet .now .kept) in
-    ( omega (arith, f)
-    , omega (arith, n, c .size-of-needed .ensures, c .if-out-needed .left, c .put-section-at .ensures .answer, c .put-section-at-2 .ensures .answer, c .put-section-at .kept .out, c .put-section-at-2 .kept .out) )
+    let f = sizes t (c .args .sheet .now .kept) in (
+      omega (arith, f),
+      omega (arith, n, c .size-of-needed .ensures, c .if-out-needed .left, c .put-section-at .ensures .answer, c .put-section-at-2 .ensures .answer, c .put-section-at .kept .out, c .put-section-at-2 .kept .out),
+    )
 
 pub put-number-at-requires : need.put-number-at-requires
 put-number-at-requires c κs =
@@ -43,9 +42,10 @@ put-number-at-requires c κs =
 pub put-lots-requires : need.put-lots-requires
 put-lots-requires c κs =
     let t = tables-of (c .args .sheet .now) in
-    let n = parts-length t in
-    ( all-within t (c .args .sheet .now .kept)
-    , omega (arith, n, c .size-of-needed .ensures, c .if-out-needed .left, c .put-section-at .ensures .answer, c .put-section-at-2 .ensures .answer, c .put-section-at-3 .ensures .answer, c .put-number-at .ensures .answer, c .put-section-at .kept .out, c .put-section-at-2 .kept .out, c .put-section-at-3 .kept .out, c .put-number-at .kept .out) )
+    let n = parts-length t in (
+      all-within t (c .args .sheet .now .kept),
+      omega (arith, n, c .size-of-needed .ensures, c .if-out-needed .left, c .put-section-at .ensures .answer, c .put-section-at-2 .ensures .answer, c .put-section-at-3 .ensures .answer, c .put-number-at .ensures .answer, c .put-section-at .kept .out, c .put-section-at-2 .kept .out, c .put-section-at-3 .kept .out, c .put-number-at .kept .out),
+    )
 
 -- enough room: the count is answered
 counted : (n size room : ℕ) → n ≡ size → size ≤ room → _≡_ {A = Result ℕ WriteFault} (Ok n) (cond (ltb room size) (Err (Short size)) (Ok size))
@@ -83,6 +83,7 @@ returns c =
     let o₃ = laid-then (c .put-section-at-3 .result) (c .put-number-at .result) count lots (c .put-section-at-3 .last .out) (c .put-number-at .last .out) (c .put-lots .last .out) a₄ f₃ (r₄ .bytes) (r₅ .bytes) in
     let o₂ = laid-then (c .put-section-at-2 .result) (c .put-section-at-3 .result) activities (count ++ lots) (c .put-section-at-2 .last .out) (c .put-section-at-3 .last .out) (c .put-lots .last .out) a₃ f₂ (r₃ .bytes) o₃ in
     let o₁ = laid-then (c .put-section-at .result) (c .put-section-at-2 .result) events (activities ++ (count ++ lots)) (c .put-section-at .last .out) (c .put-section-at-2 .last .out) (c .put-lots .last .out) a₂ f₁ (r₂ .bytes) o₂ in
-    record
-    { answer = counted (c .put-lots .result) (length (bytes-of t)) (length old) (omega arith) room
-    ; bytes = laid-then 0 (c .put-section-at .result) terms (events ++ (activities ++ (count ++ lots))) old (c .put-section-at .last .out) (c .put-lots .last .out) a₁ f₀ (r₁ .bytes) o₁ }
+    record {
+      answer = counted (c .put-lots .result) (length (bytes-of t)) (length old) (omega arith) room;
+      bytes = laid-then 0 (c .put-section-at .result) terms (events ++ (activities ++ (count ++ lots))) old (c .put-section-at .last .out) (c .put-lots .last .out) a₁ f₀ (r₁ .bytes) o₁;
+    }

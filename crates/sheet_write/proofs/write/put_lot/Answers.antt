@@ -29,10 +29,11 @@ returns c =
     let r : at + 6 ≤ length old = omega (arith, c .pre) in
     let n : c .put-all .result ≡ c .put-number-at-3 .result + length (joined number-bytes (stretch l (c .args .steps .now))) = e .answer ∙ ap (λ (ys : List ℕ). c .put-number-at-3 .result + length (joined number-bytes ys)) o in
     let w : c .put-all .last .out ≡ laid (c .put-number-at-3 .result) (joined number-bytes (stretch l (c .args .steps .now))) (c .put-number-at-3 .last .out) =
-          e .bytes ∙ ap (λ (ys : List ℕ). laid (c .put-number-at-3 .result) (joined number-bytes ys) (c .put-number-at-3 .last .out)) o in
+    e .bytes ∙ ap (λ (ys : List ℕ). laid (c .put-number-at-3 .result) (joined number-bytes ys) (c .put-number-at-3 .last .out)) o in
     let k : c .put-number-at .last .out ≡ laid at (number-bytes (class-number (l .class))) old = a .bytes ∙ ap (λ (m : ℕ). laid at (number-bytes m) old) (c .class-number .ensures) in
     let two = laid-then at (c .put-number-at .result) (number-bytes (class-number (l .class))) (number-bytes (l .parcels)) old _ _ (a .answer) p k (b .bytes) in
     let three = laid-then at (c .put-number-at-2 .result) (number-bytes (class-number (l .class)) ++ number-bytes (l .parcels)) (number-bytes (l .count)) old _ _ (omega (arith, a .answer, b .answer)) q two (d .bytes) in
-    record
-    { answer = omega (arith, a .answer, b .answer, d .answer, n)
-    ; bytes = laid-then at (c .put-number-at-3 .result) (number-bytes (class-number (l .class)) ++ (number-bytes (l .parcels) ++ number-bytes (l .count))) (joined number-bytes (stretch l (c .args .steps .now))) old _ _ (omega (arith, a .answer, b .answer, d .answer)) r three w }
+    record {
+      answer = omega (arith, a .answer, b .answer, d .answer, n);
+      bytes = laid-then at (c .put-number-at-3 .result) (number-bytes (class-number (l .class)) ++ (number-bytes (l .parcels) ++ number-bytes (l .count))) (joined number-bytes (stretch l (c .args .steps .now))) old _ _ (omega (arith, a .answer, b .answer, d .answer)) r three w;
+    }

@@ -1,8 +1,5 @@
-use mathlib.Core.Path.{_≡_, refl, sym, ap, _∙_}
-use lib.ListN.{length, getD}
 use Rattle.std.proofs.shelf.Lists.{getD-default}
 use Rattle.std.proofs.shelf.Elements.{all-getD}
-use Rattle.sheet.specs.declared.records.Lot.{Lot}
 use Rattle.sheet.specs.Rules.{no-lot, lot-at}
 use Rattle.sheet_write.specs.Writing.{Within}
 use Rattle.sheet_write.proofs.Putting.{put-none, put-room, put-more, put-all}
@@ -13,9 +10,10 @@ loop-lot-holds c = put-none _ _ _ _
 
 pub put-lot-at-requires : need.put-lot-at-requires
 put-lot-at-requires c κs =
-    let x = lot-at (c .args .lots .now) (c .loop-lot .lot-index) in
-    ( all-getD (Within (c .args .steps .now)) (c .args .lots .now) (c .loop-lot .lot-index) no-lot (c .loop-lot-test .taken) (c .pre .0)
-    , put-room _ _ _ _ _ _ _ x (c .pre .1) (c .loop-lot .inv) (c .loop-lot-test .taken) (getD-default (c .args .lots .now) (c .loop-lot .lot-index) no-lot x (c .loop-lot-test .taken)) (c .loop-lot .kept .out) )
+    let x = lot-at (c .args .lots .now) (c .loop-lot .lot-index) in (
+      all-getD (Within (c .args .steps .now)) (c .args .lots .now) (c .loop-lot .lot-index) no-lot (c .loop-lot-test .taken) (c .pre .0),
+      put-room _ _ _ _ _ _ _ x (c .pre .1) (c .loop-lot .inv) (c .loop-lot-test .taken) (getD-default (c .args .lots .now) (c .loop-lot .lot-index) no-lot x (c .loop-lot-test .taken)) (c .loop-lot .kept .out),
+    )
 
 pub loop-lot-again : need.loop-lot-again
 loop-lot-again c =

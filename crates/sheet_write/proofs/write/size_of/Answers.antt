@@ -1,4 +1,4 @@
-use mathlib.Core.Path.{_≡_, sym}
+use mathlib.Core.Path.{sym}
 use Rattle.sheet.specs.Sheets.{tables-of}
 use Rattle.sheet_write.proofs.Sizes.{bytes-length}
 use Rattle.sheet_write.proofs.write.size_of.Needs as need

@@ -1,8 +1,7 @@
-use mathlib.Core.Path.{_≡_, refl, sym, ap, subst, _∙_}
+use mathlib.Core.Path.{_≡_, sym, ap, subst, _∙_}
 use mathlib.Core.Bool.{Bool, true, false, cond}
 use mathlib.Core.List.{List}
 use Prim.Native.Nat.{ℕ}
-use native.Mathlib.Omega.{arith}
 use lib.Dec.{ltb}
 use lib.ListN.{length, take}
 use Rattle.std.specs.Results.{isOk}
@@ -36,7 +35,8 @@ pub returns : need.returns
 returns c =
     let f = c .fill-buffer .ensures in
     let s = c .args .sheet .now in
-    record
-    { answer = f .answer
-    ; bytes = f .bytes
-    ; read-back = again (tables-of s) (c .fill-buffer .result) (c .args .out .now) (c .fill-buffer .last .out) (f .answer) (f .bytes) (read-back (tables-of s) (s .kept)) }
+    record {
+      answer = f .answer;
+      bytes = f .bytes;
+      read-back = again (tables-of s) (c .fill-buffer .result) (c .args .out .now) (c .fill-buffer .last .out) (f .answer) (f .bytes) (read-back (tables-of s) (s .kept));
+    }
