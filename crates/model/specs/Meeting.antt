@@ -15,8 +15,12 @@ use Rattle.model.specs.Lateness.{worst}
 abbrev pub live : Yard → ℕ → Bool
 live g a = cond (struck g a) false (ltb 0 (handed g a (worst g (tail g a))))
 
+-- a live activity into an event
+abbrev pub into : Yard → ℕ → ℕ → Bool
+into g e a = live g a && eqb (head g a) e
+
 unfoldable pub sources : Yard → ℕ → ℕ
-sources g e = count (activity-count g) (λ a. live g a && eqb (head g a) e) + cond (ltb 0 (noted g e)) 1 0
+sources g e = count (activity-count g) (into g e) + cond (ltb 0 (noted g e)) 1 0
 
 abbrev pub meets : Yard → ℕ → Bool
 meets g e = leb 2 (sources g e)

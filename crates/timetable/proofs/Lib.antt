@@ -1,3 +1,4 @@
 pub mod Stances
 pub mod Loops
 pub mod Cells
+pub mod Sources

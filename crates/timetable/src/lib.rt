@@ -3,3 +3,4 @@ pub mod choosing;
 pub mod day;
 pub mod lateness;
 pub mod live;
+pub mod meeting;
