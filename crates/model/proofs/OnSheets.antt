@@ -89,7 +89,7 @@ module _ (g : Yard) where
       let y = and-parts (ltb a (length (g .sheet .activities))) _ (x .0) in
       (ltb-true a (length (g .sheet .activities)) (y .0), eqb-true _ e (y .1), chain-on (head g a) s (x .1))
 
-  chain-from : (s : List ℕ) → path-keeps (g .sheet .activities) None s ≡ true → Chain g (begins g s) s
+  pub chain-from : (s : List ℕ) → path-keeps (g .sheet .activities) None s ≡ true → Chain g (begins g s) s
   unfolding tail head activity-count
   chain-from [] h = tt
   chain-from (a ∷ s) h =
@@ -103,7 +103,7 @@ module _ (g : Yard) where
   ends-within so e a [] c = so .within a (c .0)
   ends-within so e a (b ∷ s) c = ends-within so (head g a) b s (c .2)
 
-  end-within : Sound g → (s : List ℕ) → 1 ≤ length s → Chain g (begins g s) s → ends g (begins g s) s < event-count g
+  pub end-within : Sound g → (s : List ℕ) → 1 ≤ length s → Chain g (begins g s) s → ends g (begins g s) s < event-count g
   end-within so [] n c = absurd (omega arith)
   end-within so (a ∷ s) n c = ends-within so (tail g a) a s c
 

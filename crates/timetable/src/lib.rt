@@ -3,4 +3,6 @@ pub mod choosing;
 pub mod day;
 pub mod lateness;
 pub mod live;
+pub mod lots;
 pub mod meeting;
+pub mod tangles;
