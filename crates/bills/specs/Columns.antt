@@ -2,7 +2,7 @@
 --
 --   at_event, over_transfer    the late lots of an event and the miss bill of a transfer, under a tariff's prices
 --   lesser                     what an activity adds to its tail's bill, under a tariff's prices
---   BilledFrom                a column that holds the bills of an event and of those after it
+--   BilledFrom                 a column that holds the bills of an event and of those after it
 --   Billed                     a column that holds every event's bill
 use Rattle.std.specs.Prelude.{◌≡◌, ℕ, ◌<◌, ◌≤◌, List, length, slice_index_or}
 use Rattle.tariff.specs.Prices.{Prices}

@@ -60,7 +60,7 @@ impl<T: Tariff> Charge<T> for MissOver<'_> {
 pub fn late_lots<T: Tariff>(tariff: &T, day: Day, late: &[u16], e: usize) -> T::Toll
     requires ready { (Ready day) × (e < length day.events.now) }
     requires short { (e < length late.now) × (slice_index late.now e ≤ 1440) }
-    ensures { (rule : ℕ → ℕ → ℕ) → WorstIn rule day.entry late.now → result ≡ at_event (prices tariff.now) (yard_of rule day.entry) e }
+    ensures { (rule : ℕ → ℕ → ℕ) → WorstIn rule day.entry late.now → result ≡ at_event (T.prices tariff.now) (yard_of rule day.entry) e }
 {
     let way = LateAt {
         day,
@@ -73,7 +73,7 @@ pub fn late_lots<T: Tariff>(tariff: &T, day: Day, late: &[u16], e: usize) -> T::
 /// The miss bill of transfer `a`: what the whole lots over it pay if it goes.
 pub fn miss_bill<T: Tariff>(tariff: &T, day: Day, a: usize) -> T::Toll
     requires ready { Ready day }
-    ensures { (rule : ℕ → ℕ → ℕ) → result ≡ over_transfer (prices tariff.now) (yard_of rule day.entry) a }
+    ensures { (rule : ℕ → ℕ → ℕ) → result ≡ over_transfer (T.prices tariff.now) (yard_of rule day.entry) a }
 {
     sum_charges(tariff, &MissOver { day, transfer: a }, day.lots)
 }

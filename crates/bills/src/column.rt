@@ -24,10 +24,10 @@ impl<X: Copy> Bills<'_, X> {
         day: Day,
         late: &[u16],
     )
-        requires ready { (Ready day) × (WorstIn (hands rule.now) day late.now) }
-        requires clear { Clear (yard_of (hands rule.now) day) }
+        requires ready { (Ready day) × (WorstIn (R.hands rule.now) day late.now) }
+        requires clear { Clear (yard_of (R.hands rule.now) day) }
         requires room { length day.events.now ≤ length self.old.cells.now }
-        ensures billed { Billed (prices tariff.now) (hands rule.now) day.entry self.new.cells.now }
+        ensures billed { Billed (T.prices tariff.now) (R.hands rule.now) day.entry self.new.cells.now }
         ensures beyond { (other : X) (k : ℕ) → length day.entry.events.now ≤ k → slice_index_or self.new.cells.now k other ≡ slice_index_or self.old.cells.now k other }
         ensures long { length self.new.cells.now ≡ length self.old.cells.now }
         ensures kept { self.new.cells.ghost_name ≡ self.old.cells.ghost_name }
@@ -46,10 +46,10 @@ pub fn fill_bills<R: Carry, T: Tariff>(
     late: &[u16],
     cells: &mut [T::Toll],
 )
-    requires ready { (Ready day) × (WorstIn (hands rule.now) day late.now) }
-    requires clear { Clear (yard_of (hands rule.now) day) }
+    requires ready { (Ready day) × (WorstIn (R.hands rule.now) day late.now) }
+    requires clear { Clear (yard_of (R.hands rule.now) day) }
     requires room { length day.events.now ≤ length cells.old }
-    ensures billed { Billed (prices tariff.now) (hands rule.now) day.entry cells.new }
+    ensures billed { Billed (T.prices tariff.now) (R.hands rule.now) day.entry cells.new }
     ensures long { length cells.new ≡ length cells.old }
 {
     let mut column = Bills { cells };

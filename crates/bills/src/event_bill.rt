@@ -31,7 +31,7 @@ fn set_bill<X: Copy>(cells: &mut [X], event: usize, bill: X)
 /// What activity `a` adds to its tail's bill, where `wait` is its head's: for an unmarked transfer the lesser of that and its miss bill.
 pub fn lesser_bill<T: Tariff>(tariff: &T, day: Day, a: usize, wait: T::Toll) -> T::Toll
     requires ready { (Ready day) × (a < length day.activities.now) }
-    ensures { (rule : ℕ → ℕ → ℕ) → result ≡ lesser (prices tariff.now) (yard_of rule day.entry) a wait }
+    ensures { (rule : ℕ → ℕ → ℕ) → result ≡ lesser (T.prices tariff.now) (yard_of rule day.entry) a wait }
 {
     match stands(day.activities, day.marks, day.trial, a) {
         Stance::Open => {
@@ -48,9 +48,9 @@ pub fn lesser_bill<T: Tariff>(tariff: &T, day: Day, a: usize, wait: T::Toll) -> 
 
 /// Whether activity `a` leaves event `e` and is live, where `late` holds the worst timetable.
 fn goes_on<R: Carry>(rule: &R, day: Day, late: &[u16], e: usize, a: usize) -> bool
-    requires ready { (Ready day) × (WorstIn (hands rule.now) day late.now) }
+    requires ready { (Ready day) × (WorstIn (R.hands rule.now) day late.now) }
     requires within { a < length day.activities.now }
-    ensures { result ≡ (tail (yard_of (hands rule.now) day.entry) a == e && live (yard_of (hands rule.now) day.entry) a) }
+    ensures { result ≡ (tail (yard_of (R.hands rule.now) day.entry) a == e && live (yard_of (R.hands rule.now) day.entry) a) }
 {
     let tail = usize::from(day.activities[a].tail);
     tail == e && is_live(rule, day, late, a)
@@ -65,10 +65,10 @@ fn bill_at<R: Carry, T: Tariff>(
     cells: &[T::Toll],
     e: usize,
 ) -> T::Toll
-    requires ready { (Ready day) × (WorstIn (hands rule.now) day late.now) }
-    requires clear { Clear (yard_of (hands rule.now) day) }
-    requires after { (e < length day.events.now) × (BilledFrom (prices tariff.now) (hands rule.now) day cells.now (e + 1)) }
-    ensures { result ≡ event_bill (prices tariff.now) (yard_of (hands rule.now) day.entry) e }
+    requires ready { (Ready day) × (WorstIn (R.hands rule.now) day late.now) }
+    requires clear { Clear (yard_of (R.hands rule.now) day) }
+    requires after { (e < length day.events.now) × (BilledFrom (T.prices tariff.now) (R.hands rule.now) day cells.now (e + 1)) }
+    ensures { result ≡ event_bill (T.prices tariff.now) (yard_of (R.hands rule.now) day.entry) e }
 {
     let mut sum = late_lots(tariff, day, late, e);
     for a in 0..day.activities.len() {
@@ -89,10 +89,10 @@ pub fn write_bill<R: Carry, T: Tariff>(
     cells: &mut [T::Toll],
     e: usize,
 )
-    requires ready { (Ready day) × (WorstIn (hands rule.now) day late.now) }
-    requires clear { Clear (yard_of (hands rule.now) day) }
-    requires after { (e < length day.events.now) × (BilledFrom (prices tariff.now) (hands rule.now) day cells.old (e + 1)) }
-    ensures { cells.new ≡ slice_set cells.old e (event_bill (prices tariff.now) (yard_of (hands rule.now) day.entry) e) }
+    requires ready { (Ready day) × (WorstIn (R.hands rule.now) day late.now) }
+    requires clear { Clear (yard_of (R.hands rule.now) day) }
+    requires after { (e < length day.events.now) × (BilledFrom (T.prices tariff.now) (R.hands rule.now) day cells.old (e + 1)) }
+    ensures { cells.new ≡ slice_set cells.old e (event_bill (T.prices tariff.now) (yard_of (R.hands rule.now) day.entry) e) }
 {
     let bill = bill_at(rule, tariff, day, late, cells, e);
     set_bill(cells, e, bill);

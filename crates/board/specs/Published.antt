@@ -1,6 +1,6 @@
 -- A plan as the published model has it: margins, and parcel-minutes lost.
 --
---   minutes_lost      the sum over lots of parcels times the end's lateness, or times the period where a connection on the way is missed
+--   minutes_lost     the sum over lots of parcels times the end's lateness, or times the period where a connection on the way is missed
 --   PublishedPlan    lateness that keeps the margins, at no event later than any that does, and the minutes lost as toll
 use Rattle.std.specs.Prelude.{◌≡◌, ℕ, ◌*◌, ◌<◌, ◌≤◌, cond, List}
 use Rattle.tariff.specs.Tolls.{numbers}

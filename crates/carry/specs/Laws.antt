@@ -1,7 +1,7 @@
 -- What every carry rule keeps, and what remains under one.
 --
 --   LawfulRule    the three laws of a rule, for all whole numbers
---   Remains        the greatest lateness up to 1,440 that hands on at most an allowance
+--   Remains       the greatest lateness up to 1,440 that hands on at most an allowance
 use Rattle.std.specs.Prelude.{◌≡◌, ℕ, ◌≤◌}
 
 -- a rule, as the function from margin and lateness to what is handed on, keeps its laws

@@ -23,11 +23,11 @@ pub fn choose<R: Carry, T: Tariff>(
     late: &mut [u16],
     gone: &mut [u8],
 ) -> usize
-    requires ready { (Ready day) × (WorstIn (hands rule.now) day worst.now) }
-    requires billed { Billed (prices tariff.now) (hands rule.now) day cells.now }
+    requires ready { (Ready day) × (WorstIn (R.hands rule.now) day worst.now) }
+    requires billed { Billed (T.prices tariff.now) (R.hands rule.now) day cells.now }
     requires room { (length day.events.now ≤ length late.old) × (length day.activities.now ≤ length gone.old) }
-    ensures chosen { Chosen (prices tariff.now) (yard_of (hands rule.now) day.entry) late.new gone.new }
-    ensures count { result ≡ gone_count (yard_of (hands rule.now) day.entry) gone.new }
+    ensures chosen { Chosen (T.prices tariff.now) (yard_of (R.hands rule.now) day.entry) late.new gone.new }
+    ensures count { result ≡ gone_count (yard_of (R.hands rule.now) day.entry) gone.new }
     ensures late { (e : ℕ) → length day.entry.events.now ≤ e → slice_index late.new e ≡ slice_index late.old e }
     ensures gone { (a : ℕ) → length day.entry.activities.now ≤ a → slice_index gone.new a ≡ slice_index gone.old a }
 {

@@ -23,7 +23,7 @@ fn byte_of(waits: bool) -> u8
 fn is_cheap<T: Tariff>(tariff: &T, day: Day, cells: &[T::Toll], a: usize) -> bool
     requires ready { (Ready day) × (a < length day.activities.now) }
     requires room { length day.events.now ≤ length cells.now }
-    ensures { (rule : ℕ → ℕ → ℕ) → Billed (prices tariff.now) rule day.entry cells.now → result ≡ cheap (prices tariff.now) (yard_of rule day.entry) a }
+    ensures { (rule : ℕ → ℕ → ℕ) → Billed (T.prices tariff.now) rule day.entry cells.now → result ≡ cheap (T.prices tariff.now) (yard_of rule day.entry) a }
 {
     let wait = bill_cell(cells, usize::from(day.activities[a].head));
     tariff.at_most(miss_bill(tariff, day, a), wait)
@@ -38,10 +38,10 @@ fn would_wait<R: Carry, T: Tariff>(
     cells: &[T::Toll],
     a: usize,
 ) -> bool
-    requires ready { (Ready day) × (WorstIn (hands rule.now) day late.now) }
-    requires billed { Billed (prices tariff.now) (hands rule.now) day cells.now }
+    requires ready { (Ready day) × (WorstIn (R.hands rule.now) day late.now) }
+    requires billed { Billed (T.prices tariff.now) (R.hands rule.now) day cells.now }
     requires within { a < length day.activities.now }
-    ensures { result ≡ binds (yard_of (hands rule.now) day.entry) (unless_cheap (prices tariff.now) (yard_of (hands rule.now) day.entry)) a }
+    ensures { result ≡ binds (yard_of (R.hands rule.now) day.entry) (unless_cheap (T.prices tariff.now) (yard_of (R.hands rule.now) day.entry)) a }
 {
     match stands(day.activities, day.marks, day.trial, a) {
         Stance::Bound => true,
@@ -59,10 +59,10 @@ pub fn write_cheap<R: Carry, T: Tariff>(
     cells: &[T::Toll],
     gone: &mut [u8],
 )
-    requires ready { (Ready day) × (WorstIn (hands rule.now) day late.now) }
-    requires billed { Billed (prices tariff.now) (hands rule.now) day cells.now }
+    requires ready { (Ready day) × (WorstIn (R.hands rule.now) day late.now) }
+    requires billed { Billed (T.prices tariff.now) (R.hands rule.now) day cells.now }
     requires room { length day.activities.now ≤ length gone.old }
-    ensures cells { (a : ℕ) → a < length day.entry.activities.now → slice_index gone.new a ≡ byte (binds (yard_of (hands rule.now) day.entry) (unless_cheap (prices tariff.now) (yard_of (hands rule.now) day.entry)) a) }
+    ensures cells { (a : ℕ) → a < length day.entry.activities.now → slice_index gone.new a ≡ byte (binds (yard_of (R.hands rule.now) day.entry) (unless_cheap (T.prices tariff.now) (yard_of (R.hands rule.now) day.entry)) a) }
     ensures kept { (a : ℕ) → length day.entry.activities.now ≤ a → slice_index gone.new a ≡ slice_index gone.old a }
 {
     for a in 0..day.activities.len() {

@@ -3,7 +3,7 @@
 --   outlook_text    the three lines of a yard's outlook
 --   Foreseen        a text is the outlook of the sheet whose bytes these are, under a rule and reports that it takes
 --   Unforeseen      a report is at fault by the sheet whose bytes these are
---   BlamesAhead    what the desk says where there is no outlook
+--   BlamesAhead     what the desk says where there is no outlook
 --   Spoils          the same, of a sheet that was read
 use Rattle.std.specs.Prelude.{◌≡◌, ℕ, Bool, true, List, ◌++◌, map, length, Some, None, Err, codes, Result}
 use Rattle.std.specs.List.{range_with_len}

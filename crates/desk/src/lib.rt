@@ -1,4 +1,6 @@
 //! The desk: a sheet's bytes answered as a listing, a listing as a sheet's bytes, a carry rule's name and minutes as minutes, and reported delays as an outlook.
+#![tactic(auto)]
+
 pub mod fault;
 pub mod minutes;
 mod number;

@@ -1,6 +1,9 @@
 //! The dock program: reads, checks, prints and writes sheets, answers for the carry rules, and looks ahead of delays.
+#![tactic(auto)]
+
 use command::Command;
 use fault::DockFault;
+use std::process::ExitCode;
 
 mod command;
 mod fault;
@@ -45,15 +48,12 @@ event that the sheet does not have prints 'refused 9', and one above the period 
 and where a file cannot be read or written or an argument is wrong, the status is 1 and nothing is
 written.";
 
-/// What a program that failed has already told.
-struct Failed;
-
-fn main(rt: HostRuntime) -> Result<(), Failed> {
+fn main(rt: HostRuntime) -> ExitCode {
     match run(&rt) {
-        Ok(()) => Ok(()),
+        Ok(()) => ExitCode::SUCCESS,
         Err(fault) => {
             fault::tell(&rt, fault);
-            Err(Failed)
+            ExitCode::FAILURE
         }
     }
 }

@@ -1,10 +1,10 @@
 -- The keeper law.
 --
---   held_count      how many transfers are held
+--   held_count    how many transfers are held
 --   holds_taken, releases_taken    how many holds and releases of a list of calls are accepted
---   Hindered        delays meet at an event, or a lot is tangled
---   Ran             the calls that a run performed
---   KeeperLaw      what holds of a board after a list of calls, of the plan that it then answers, and of the reserves that it then writes
+--   Hindered      delays meet at an event, or a lot is tangled
+--   Ran           the calls that a run performed
+--   KeeperLaw     what holds of a board after a list of calls, of the plan that it then answers, and of the reserves that it then writes
 use Rattle.std.specs.Prelude.{◌≡◌, ℕ, ◌+◌, ◌<◌, Bool, true, cond, ◌⊎◌, ◌↔◌, List, [], ◌∷◌, ◌++◌, length, is_ok, is_err, IfOk, Result}
 use Rattle.std.specs.Result.{result_err}
 use Rattle.sheet.specs.Rules.{Tables}

@@ -1,9 +1,9 @@
 -- Orders and answers as calls of the ledger.
 --
---   call_of      the call that an order asks for
---   answered     the call that an answer answers
+--   call_of     the call that an order asks for
+--   answered    the call that an answer answers
 --   wrote_plan, wrote_reserves    whether the tables of a plan, or of reserves, were written
---   Answers      an answer is the one that the ledger gives, with what was written into the tables
+--   Answers     an answer is the one that the ledger gives, with what was written into the tables
 use Rattle.std.specs.Prelude.{◌≡◌, ℕ, Bool, true, false, List, length, is_ok, IfOk, OnOk}
 use Rattle.std.specs.Result.{result_err}
 use Rattle.tariff.specs.Prices.{Prices}
@@ -49,15 +49,15 @@ pub record TablesIn : Type 0 where
 
 -- by what the tables hold before and after
 abbrev pub tables_in : {X : Type 0} → List ℕ → List X → List ℕ → List ℕ → List ℕ → List ℕ → List ℕ → List ℕ → TablesIn
-tables_in worst cells late gone reserves late-after gone-after reserves-after = record {
+tables_in worst cells late gone reserves late_after gone_after reserves_after = record {
   worst_room = length worst;
   cells_room = length cells;
   late_room = length late;
   gone_room = length gone;
   reserves_room = length reserves;
-  late = late-after;
-  gone = gone-after;
-  reserves = reserves-after;
+  late = late_after;
+  gone = gone_after;
+  reserves = reserves_after;
 }
 
 abbrev pub room_in : Ledger → TablesIn → Bool

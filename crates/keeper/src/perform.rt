@@ -23,7 +23,7 @@ pub fn perform<R: Carry, T: Tariff, Q: Reserving<R>>(
     reserves: &mut [u16],
 ) -> Answer<T::Toll>
     ensures call { answered result ≡ call_of order }
-    ensures answer { Answers (prices tariff.now) (R.Carry.hands rule.now) (ledger_of board.old) (tables_in worst.old cells.old late.old gone.old reserves.old late.new gone.new reserves.new) result }
+    ensures answer { Answers (T.prices tariff.now) (R.Carry.hands rule.now) (ledger_of board.old) (tables_in worst.old cells.old late.old gone.old reserves.old late.new gone.new reserves.new) result }
     ensures plan { wrote_plan result ≡ false → (late.new ≡ late.old) × (gone.new ≡ gone.old) }
     ensures reserves { wrote_reserves result ≡ false → reserves.new ≡ reserves.old }
     ensures after { ledger_of board.new ≡ step (ledger_of board.old) (call_of order) }

@@ -53,7 +53,7 @@ fn write_last<R: Carry, Q: Reserving<R>>(
     board: &Board,
     reserves: &mut [u16],
 )
-    ensures { measures reserving.now ≡ true → for_events (ledger_of board.now).sheet (length reserves.old) ≡ true → ReserveLaw (yard_on (hands rule.now) (ledger_of board.now)) reserves.new }
+    ensures { Q.measures reserving.now ≡ true → for_events (ledger_of board.now).sheet (length reserves.old) ≡ true → ReserveLaw (yard_on (R.hands rule.now) (ledger_of board.now)) reserves.new }
 {
     if let Some(ask) = reserving.leave() {
         let _ = reserving.reserve(ask, rule, board, reserves);
@@ -77,7 +77,7 @@ pub fn tend<'a, R: Carry, T: Tariff, Q: Reserving<R>, K: Keeper<T::Toll, Q::Ask>
     gone: &mut [u8],
     reserves: &mut [u16],
 ) -> (Board<'a>, Result<(T::Toll, usize), Refusal>)
-    ensures { (calls : List Call) × (Ran (log keeper.old) (log keeper.new) turns (done keeper.new) calls × KeeperLaw (prices tariff.now) (hands rule.now) (measures reserving.now) (tables_of sheet.entry) number calls (ledger_of result.0) result.1 (tables_in worst.old cells.old late.old gone.old reserves.old late.new gone.new reserves.new)) }
+    ensures { (calls : List Call) × (Ran (K.log keeper.old) (K.log keeper.new) turns (K.done keeper.new) calls × KeeperLaw (T.prices tariff.now) (R.hands rule.now) (Q.measures reserving.now) (tables_of sheet.entry) number calls (ledger_of result.0) result.1 (tables_in worst.old cells.old late.old gone.old reserves.old late.new gone.new reserves.new)) }
 {
     let mut board = Board::open(sheet, number);
     for turn in 0..turns {

@@ -2,8 +2,8 @@
 --
 --   side_word, kind_word, class_word    how a listing calls a side, a kind of activity, a class of lots
 --   period_line, event_line, activity_line, lot_line    the line of a record, without the line's end
---   steps_words    a lot's steps, a blank before each
-use Rattle.std.specs.Prelude.{ℕ, List, [], ◌∷◌, ◌++◌, codes, decimal}
+--   steps_words                         a lot's steps, a blank before each
+use Rattle.std.specs.Prelude.{ℕ, List, ◌++◌, codes, decimal}
 use Rattle.std.specs.List.{flat_map}
 use Rattle.sheet.specs.declared.records.Side.{Side}
 use Rattle.sheet.specs.declared.records.Side.TheVariants.{Arrival, Departure}

@@ -1,8 +1,8 @@
 -- A sheet's whole listing, as bytes.
 --
---   ended          a line with its end
+--   ended         a line with its end
 --   events_lines, activities_lines, lots_lines    the lines of a table, in its order
---   listing_of     the listing of a sheet's tables
+--   listing_of    the listing of a sheet's tables
 use Rattle.std.specs.Prelude.{ℕ, List, [], ◌∷◌, ◌++◌}
 use Rattle.std.specs.List.{flat_map}
 use Rattle.sheet.specs.declared.records.Event.{Event}

@@ -1,11 +1,11 @@
 -- A draft's numbers and their bytes.
 --
 --   event_numbers, activity_numbers, lot_numbers    the numbers of a record
---   numbers_bytes   numbers as bytes, each number's high byte first
---   part_bytes      a section of a draft: its count, then its numbers
---   draft_bytes     the four sections, one after another
---   Added           one more record in a section
---   Empty           a section with no record
+--   numbers_bytes    numbers as bytes, each number's high byte first
+--   part_bytes       a section of a draft: its count, then its numbers
+--   draft_bytes      the four sections, one after another
+--   Added            one more record in a section
+--   Empty            a section with no record
 use Rattle.std.specs.Prelude.{◌≡◌, ℕ, ◌+◌, List, [], ◌∷◌, ◌++◌, length, vec_items}
 use Rattle.std.specs.List.{flat_map}
 use Rattle.sheet.specs.declared.records.Class.{Class}

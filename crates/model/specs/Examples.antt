@@ -1,14 +1,14 @@
 -- Three yards worked through.
 --
 --   mixed              a sheet with four transfers from one late truck: one unmarked and live, one held, one struck, one that swallows the delay
---   HypothesesMet     on it everything holds that the laws ask for
---   ComesTo           what every choice by the bills comes to: whether transfer 1 waits, the lateness of each event, the toll
+--   HypothesesMet      on it everything holds that the laws ask for
+--   ComesTo            what every choice by the bills comes to: whether transfer 1 waits, the lateness of each event, the toll
 --   yard_sheet         the sheet in examples/, with lot 2 at a number of parcels
---   YardSheetWorked  its lateness, bills, tolls and reserves as reckoned by hand
---   YardSheetTold    the same of every choice by the bills, with both kinds of toll
+--   YardSheetWorked    its lateness, bills, tolls and reserves as reckoned by hand
+--   YardSheetTold      the same of every choice by the bills, with both kinds of toll
 --   longer_sheet       the same with a last stand, over which lot 1 goes on
---   LongerWorked      its toll, and how a delay at its end tangles lot 1
---   WorkedCases       both, and the worked cases of the rules
+--   LongerWorked       its toll, and how a delay at its end tangles lot 1
+--   WorkedCases        both, and the worked cases of the rules
 use Rattle.std.specs.Prelude.{◌≡◌, ℕ, zero, suc, ◌+◌, Bool, true, false, cond, List, [], ◌∷◌, ◌==◌}
 use Rattle.sheet.specs.declared.records.Side.TheVariants.{Arrival, Departure}
 use Rattle.sheet.specs.declared.records.Kind.TheVariants.{Drive, Stand, Transfer}

@@ -1,19 +1,19 @@
 -- The laws of the model, for every well_formed sheet, every carry rule and tariff that keep their laws, all delays and all marks.
 --
---   yard                 the yard of a sheet, a rule, delays and marks
---   Reported             every noted delay is at most the period
---   Clear                delays meet at no event, and no lot is tangled
---   ByBills             a choice as the bills of a tariff have it; cost and event_bill: its toll and bills
---   OneLeast            there is exactly one least lawful lateness for each choice
---   LawfulByDeduct     lawful as the published model has it: the tail's lateness less the head's is at most the margin
---   AChoice             there is a choice as the bills have it
---   NoRivalCheaper     where the yard is clear, no rival is cheaper than that choice with its least lateness
---   TollByBills        the toll of that choice is the struck lots' charges and the bills of the delays
---   LightBills          a bill is no bulkier than all the lots: each counts at most once
---   TanglesFound        going along a lot's way once finds whether it is tangled
---   WithinReserves      every event is within its tolerance exactly when every delay is within its reserve
---   ReserveAlone        an event's reserve is the greatest delay that it alone may have
---   MinutesToll         under deduct and parcel-minutes, the toll as the published model has it
+--   yard              the yard of a sheet, a rule, delays and marks
+--   Reported          every noted delay is at most the period
+--   Clear             delays meet at no event, and no lot is tangled
+--   ByBills           a choice as the bills of a tariff have it; cost and event_bill: its toll and bills
+--   OneLeast          there is exactly one least lawful lateness for each choice
+--   LawfulByDeduct    lawful as the published model has it: the tail's lateness less the head's is at most the margin
+--   AChoice           there is a choice as the bills have it
+--   NoRivalCheaper    where the yard is clear, no rival is cheaper than that choice with its least lateness
+--   TollByBills       the toll of that choice is the struck lots' charges and the bills of the delays
+--   LightBills        a bill is no bulkier than all the lots: each counts at most once
+--   TanglesFound      going along a lot's way once finds whether it is tangled
+--   WithinReserves    every event is within its tolerance exactly when every delay is within its reserve
+--   ReserveAlone      an event's reserve is the greatest delay that it alone may have
+--   MinutesToll       under deduct and parcel-minutes, the toll as the published model has it
 use Rattle.std.specs.Prelude.{◌≡◌, ℕ, ◌-◌, ◌*◌, ◌<◌, ◌≤◌, true, false, cond, ◌↔◌, Decides, ◌==◌}
 use Rattle.sheet.specs.Rules.{Tables, well_formed, activity_at}
 use Rattle.carry.specs.Handed.{deducted}

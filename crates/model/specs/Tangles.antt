@@ -1,8 +1,8 @@
 -- Where a lot is tangled.
 --
---   Tangled      a way with a live transfer and a later step that is not live, and then a live transfer again or a late end
---   TangledLot  a lot without a struck transfer whose way is so
---   tangled      the same, found by going along the way once
+--   Tangled       a way with a live transfer and a later step that is not live, and then a live transfer again or a late end
+--   TangledLot    a lot without a struck transfer whose way is so
+--   tangled       the same, found by going along the way once
 use Rattle.std.specs.Prelude.{◌≡◌, ℕ, Bool, true, false, not, ◌&&◌, ◌||◌, ◌⊎◌, List, [], ◌∷◌, ◌++◌, nat_lt}
 use Rattle.model.specs.Yard.{Yard, transfer}
 use Rattle.model.specs.Finite.{some}

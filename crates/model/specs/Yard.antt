@@ -1,11 +1,11 @@
 -- A yard: a sheet on a day, with what is noted of it.
 --
---   Yard             the sheet, the carry rule's meaning, the noted delay of each event, the mark of each activity
+--   Yard          the sheet, the carry rule's meaning, the noted delay of each event, the mark of each activity
 --   event_count, activity_count    how many of each there are
---   tail, head       the events that an activity leads from and to
---   handed           what an activity hands on of the lateness at its tail
---   noted            an event's noted delay
---   transfer         an activity that is a transfer; struck, held and unmarked: one so marked
+--   tail, head    the events that an activity leads from and to
+--   handed        what an activity hands on of the lateness at its tail
+--   noted         an event's noted delay
+--   transfer      an activity that is a transfer; struck, held and unmarked: one so marked
 use Rattle.std.specs.Prelude.{ℕ, Bool, true, false, cond, ◌&&◌, length, nat_lt}
 use Rattle.sheet.specs.declared.records.Kind.{Kind}
 use Rattle.sheet.specs.declared.records.Kind.TheVariants.{Drive, Stand, Transfer}

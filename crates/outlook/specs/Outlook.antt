@@ -5,7 +5,7 @@
 --   judged        the verdict by the first event where delays meet and the first tangled lot
 --   verdict_of    the verdict on a yard
 --   Filled        a table whose front holds a function's values, and whose further cells are as they were
---   ShowsWorst   a table is filled with a yard's worst timetable; ShowsLive: with whether each activity is live
+--   ShowsWorst    a table is filled with a yard's worst timetable; ShowsLive: with whether each activity is live
 use Rattle.std.specs.Prelude.{◌≡◌, ℕ, ◌<◌, ◌≤◌, Bool, false, cond, ◌||◌, List, length, Some, None, Option, nat_lt, slice_index_or}
 use Rattle.sheet.specs.Rules.{Tables}
 use Rattle.model.specs.declared.mark.Mark.{Mark}

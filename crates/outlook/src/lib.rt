@@ -1,4 +1,6 @@
 //! The outlook: what reported delays lead to at worst, and whether they can be planned for.
+#![tactic(auto)]
+
 pub mod answer;
 pub mod lines;
 pub mod look;

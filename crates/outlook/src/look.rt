@@ -34,9 +34,9 @@ fn foresee<R: Carry>(
     lives: &mut [bool],
 ) -> Verdict
     requires { refusal_in (tables_of sheet.now) reports.now (length late.old) (length lives.old) ≡ None }
-    ensures verdict { result ≡ verdict_of (ahead (hands rule.now) (tables_of sheet.now) reports.now) }
-    ensures late { ShowsWorst (ahead (hands rule.now) (tables_of sheet.now) reports.now) late.old late.new }
-    ensures live { ShowsLive (ahead (hands rule.now) (tables_of sheet.now) reports.now) lives.old lives.new }
+    ensures verdict { result ≡ verdict_of (ahead (R.hands rule.now) (tables_of sheet.now) reports.now) }
+    ensures late { ShowsWorst (ahead (R.hands rule.now) (tables_of sheet.now) reports.now) late.old late.new }
+    ensures live { ShowsLive (ahead (R.hands rule.now) (tables_of sheet.now) reports.now) lives.old lives.new }
 {
     let mut delays = [0u16; 512];
     note(reports, &mut delays);
@@ -63,9 +63,9 @@ pub fn look_ahead<R: Carry>(
     lives: &mut [bool],
 ) -> Result<Verdict, OutlookFault>
     ensures refusal { result_err result ≡ refusal_in (tables_of sheet.now) reports.now (length late.old) (length lives.old) }
-    ensures verdict { IfOk result (λ v. v ≡ verdict_of (ahead (hands rule.now) (tables_of sheet.now) reports.now)) }
-    ensures late { OnOk result (ShowsWorst (ahead (hands rule.now) (tables_of sheet.now) reports.now) late.old late.new) }
-    ensures live { OnOk result (ShowsLive (ahead (hands rule.now) (tables_of sheet.now) reports.now) lives.old lives.new) }
+    ensures verdict { IfOk result (λ v. v ≡ verdict_of (ahead (R.hands rule.now) (tables_of sheet.now) reports.now)) }
+    ensures late { OnOk result (ShowsWorst (ahead (R.hands rule.now) (tables_of sheet.now) reports.now) late.old late.new) }
+    ensures live { OnOk result (ShowsLive (ahead (R.hands rule.now) (tables_of sheet.now) reports.now) lives.old lives.new) }
     ensures kept { OnErr result ((late.new ≡ late.old) × (lives.new ≡ lives.old)) }
 {
     match refusal(sheet, reports, late.len(), lives.len()) {

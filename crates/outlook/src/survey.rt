@@ -13,9 +13,9 @@ use timetable::tangles::first_tangled;
 
 /// Writes which activities are live, where `late` holds the worst timetable.
 fn write_live<R: Carry>(rule: &R, day: Day, late: &[u16], lives: &mut [bool])
-    requires ready { (Ready day) × (WorstIn (hands rule.now) day late.now) }
+    requires ready { (Ready day) × (WorstIn (R.hands rule.now) day late.now) }
     requires room { length day.activities.now ≤ length lives.old }
-    ensures { ShowsLive (yard_of (hands rule.now) day.entry) lives.old lives.new }
+    ensures { ShowsLive (yard_of (R.hands rule.now) day.entry) lives.old lives.new }
 {
     for a in 0..day.activities.len() {
         lives[a] = is_live(rule, day, late, a);
@@ -24,8 +24,8 @@ fn write_live<R: Carry>(rule: &R, day: Day, late: &[u16], lives: &mut [bool])
 
 /// The verdict on a day, where `late` holds the worst timetable.
 fn verdict<R: Carry>(rule: &R, day: Day, late: &[u16]) -> Verdict
-    requires ready { (Ready day) × (WorstIn (hands rule.now) day late.now) }
-    ensures { result ≡ verdict_of (yard_of (hands rule.now) day.entry) }
+    requires ready { (Ready day) × (WorstIn (R.hands rule.now) day late.now) }
+    ensures { result ≡ verdict_of (yard_of (R.hands rule.now) day.entry) }
 {
     if let Some(event) = first_meeting(rule, day, late) {
         return Verdict::Meet(event);
@@ -40,9 +40,9 @@ fn verdict<R: Carry>(rule: &R, day: Day, late: &[u16]) -> Verdict
 pub(crate) fn survey<R: Carry>(rule: &R, day: Day, late: &mut [u16], lives: &mut [bool]) -> Verdict
     requires ready { Ready day }
     requires room { (length day.events.now ≤ length late.old) × (length day.activities.now ≤ length lives.old) }
-    ensures verdict { result ≡ verdict_of (yard_of (hands rule.now) day.entry) }
-    ensures late { ShowsWorst (yard_of (hands rule.now) day.entry) late.old late.new }
-    ensures live { ShowsLive (yard_of (hands rule.now) day.entry) lives.old lives.new }
+    ensures verdict { result ≡ verdict_of (yard_of (R.hands rule.now) day.entry) }
+    ensures late { ShowsWorst (yard_of (R.hands rule.now) day.entry) late.old late.new }
+    ensures live { ShowsLive (yard_of (R.hands rule.now) day.entry) lives.old lives.new }
 {
     write_worst(rule, day, late);
     write_live(rule, day, late, lives);

@@ -1,8 +1,8 @@
 -- What a plan would cost, and what of it the strikes alone cost.
 --
---   struck_due        the miss charge of a lot with a struck transfer on its way
---   by_strikes        what all such lots pay, under a tariff's prices
---   by_bills          the struck lots' charges and the bills of the events with a noted delay, under a tariff's prices
+--   struck_due       the miss charge of a lot with a struck transfer on its way
+--   by_strikes       what all such lots pay, under a tariff's prices
+--   by_bills         the struck lots' charges and the bills of the events with a noted delay, under a tariff's prices
 --   ClearlyBilled    a column that holds every event's bill under some lawful rule by which the day is clear
 use Rattle.std.specs.Prelude.{ℕ, not, List}
 use Rattle.sheet.specs.declared.records.Lot.{Lot}

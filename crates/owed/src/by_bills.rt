@@ -12,8 +12,8 @@ use timetable::day::Day;
 /// What a plan of the day would cost, where `cells` holds the bills: the struck lots' charges, and the bill of each event with a noted delay.
 pub fn toll_by_bills<T: Tariff>(tariff: &T, day: Day, cells: &[T::Toll]) -> T::Toll
     requires ready { Ready day }
-    requires billed { ClearlyBilled (prices tariff.now) day cells.now }
-    ensures { (rule : ℕ → ℕ → ℕ) → Billed (prices tariff.now) rule day.entry cells.now → result ≡ by_bills (prices tariff.now) (yard_of rule day.entry) }
+    requires billed { ClearlyBilled (T.prices tariff.now) day cells.now }
+    ensures { (rule : ℕ → ℕ → ℕ) → Billed (T.prices tariff.now) rule day.entry cells.now → result ≡ by_bills (T.prices tariff.now) (yard_of rule day.entry) }
 {
     let mut sum = struck_charges(tariff, day);
     for e in 0..day.events.len() {

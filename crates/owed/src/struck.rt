@@ -34,7 +34,7 @@ impl<T: Tariff> Charge<T> for OverStruck<'_> {
 /// What the lots with a struck transfer on their way pay.
 pub fn struck_charges<T: Tariff>(tariff: &T, day: Day) -> T::Toll
     requires ready { Ready day }
-    ensures { (rule : ℕ → ℕ → ℕ) → result ≡ by_strikes (prices tariff.now) (yard_of rule day.entry) }
+    ensures { (rule : ℕ → ℕ → ℕ) → result ≡ by_strikes (T.prices tariff.now) (yard_of rule day.entry) }
 {
     sum_charges(tariff, &OverStruck { day }, day.lots)
 }

@@ -1,8 +1,8 @@
 -- Plans in tables, and what stands in their way.
 --
 --   hindered    the lowest event where delays meet, or else the lowest tangled lot, or else nothing
---   TollOfPlan    the toll that every plan of the yard has
---   PlanIn     tables that hold the choice by bills and its least lateness, with their toll, which no rival beats, and how many unmarked transfers go
+--   TollOfPlan  the toll that every plan of the yard has
+--   PlanIn      tables that hold the choice by bills and its least lateness, with their toll, which no rival beats, and how many unmarked transfers go
 use Rattle.std.specs.Prelude.{◌≡◌, ℕ, ◌<◌, true, List, Some, None, Option, slice_index}
 use Rattle.tariff.specs.Prices.{Prices}
 use Rattle.model.specs.Yard.{Yard, event_count, activity_count}

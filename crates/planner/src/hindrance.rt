@@ -19,8 +19,8 @@ pub enum Hindrance {
 
 /// What stands in the way of a plan, where `worst` holds the worst timetable: meeting delays before tangled lots.
 pub fn first_hindrance<R: Carry>(rule: &R, day: Day, worst: &[u16]) -> Option<Hindrance>
-    requires ready { (Ready day) × (WorstIn (hands rule.now) day worst.now) }
-    ensures { result ≡ hindered (yard_of (hands rule.now) day.entry) }
+    requires ready { (Ready day) × (WorstIn (R.hands rule.now) day worst.now) }
+    ensures { result ≡ hindered (yard_of (R.hands rule.now) day.entry) }
 {
     if let Some(event) = first_meeting(rule, day, worst) {
         return Some(Hindrance::Meeting(event));

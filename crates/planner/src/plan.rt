@@ -27,9 +27,9 @@ pub fn plan<R: Carry, T: Tariff>(
     requires ready { Ready day }
     requires work { (length day.events.now ≤ length worst.old) × (length day.events.now ≤ length cells.old) }
     requires room { (length day.events.now ≤ length late.old) × (length day.activities.now ≤ length gone.old) }
-    ensures refuses { result_err result ≡ hindered (yard_of (hands rule.now) day.entry) }
+    ensures refuses { result_err result ≡ hindered (yard_of (R.hands rule.now) day.entry) }
     ensures untouched { IfErr result (λ h. (late.new ≡ late.old) × (gone.new ≡ gone.old)) }
-    ensures planned { IfOk result (λ answer. PlanIn (prices tariff.now) (yard_of (hands rule.now) day.entry) late.new gone.new answer.0 answer.1) }
+    ensures planned { IfOk result (λ answer. PlanIn (T.prices tariff.now) (yard_of (R.hands rule.now) day.entry) late.new gone.new answer.0 answer.1) }
     ensures late { (e : ℕ) → length day.entry.events.now ≤ e → slice_index late.new e ≡ slice_index late.old e }
     ensures gone { (a : ℕ) → length day.entry.activities.now ≤ a → slice_index gone.new a ≡ slice_index gone.old a }
 {

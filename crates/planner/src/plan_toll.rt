@@ -22,8 +22,8 @@ pub fn plan_toll<R: Carry, T: Tariff>(
 ) -> Result<T::Toll, Hindrance>
     requires ready { Ready day }
     requires work { (length day.events.now ≤ length worst.old) × (length day.events.now ≤ length cells.old) }
-    ensures refuses { result_err result ≡ hindered (yard_of (hands rule.now) day.entry) }
-    ensures toll { IfOk result (λ toll. TollOfPlan (prices tariff.now) (yard_of (hands rule.now) day.entry) toll) }
+    ensures refuses { result_err result ≡ hindered (yard_of (R.hands rule.now) day.entry) }
+    ensures toll { IfOk result (λ toll. TollOfPlan (T.prices tariff.now) (yard_of (R.hands rule.now) day.entry) toll) }
 {
     write_worst(rule, day, worst);
     if let Some(hindrance) = first_hindrance(rule, day, worst) {

@@ -2,7 +2,7 @@
 --
 --   out_of           an activity that leaves an event and is no struck transfer
 --   remaining_at     how late an activity's tail may be, so that it hands on no more than its head's reserve
---   ReservedAfter   a table that holds the reserves of the events after one
+--   ReservedAfter    a table that holds the reserves of the events after one
 use Rattle.std.specs.Prelude.{◌≡◌, ℕ, ◌<◌, ◌≤◌, Bool, not, ◌&&◌, List, length, ◌==◌, slice_index}
 use Rattle.model.specs.Yard.{Yard, tail, head, struck}
 use Rattle.model.specs.Reserves.{remaining, reserve}

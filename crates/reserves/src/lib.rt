@@ -1,2 +1,4 @@
 //! Reserves over plain slices: how much delay each event alone may have.
+#![tactic(auto)]
+
 pub mod reserve;

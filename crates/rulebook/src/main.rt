@@ -1,4 +1,6 @@
 //! A test program: every answer of each rule's two calls against an independent reckoning, then sums of charges.
+#![tactic(auto)]
+
 use carry::deduct::Deduct;
 use carry::gate::Gate;
 use carry::share::Share;

@@ -1,9 +1,9 @@
 -- The bytes of a sheet.
 --
---   number_bytes    a number of 16 bits, high byte first
+--   number_bytes     a number of 16 bits, high byte first
 --   event_bytes, activity_bytes, lot_bytes    one record
---   section_bytes   a section: its count, then its records
---   bytes_of        the whole sheet: terms, events, activities, lots
+--   section_bytes    a section: its count, then its records
+--   bytes_of         the whole sheet: terms, events, activities, lots
 use Rattle.std.specs.Prelude.{ℕ, ◌/◌, ◌%◌, List, [], ◌∷◌, ◌++◌, length}
 use Rattle.std.specs.List.{flat_map}
 use Rattle.sheet.specs.declared.records.Side.{Side}

@@ -1,12 +1,12 @@
 -- The rules of a sheet.
 --
---   Tables        a period and the four tables, as plain lists
---   event_at      the event of a number; activity_at and lot_at likewise
---   stretch       a lot's own part of the step table
+--   Tables         a period and the four tables, as plain lists
+--   event_at       the event of a number; activity_at and lot_at likewise
+--   stretch        a lot's own part of the step table
 --   event_keeps, activity_keeps, lot_keeps    one record keeps its rule
---   path_keeps    a lot's steps lead on, one from where the last one ended
---   lots_keep     all lots keep theirs, and their stretches fill the step table one after another
---   well_formed   all of it together: what every sheet is
+--   path_keeps     a lot's steps lead on, one from where the last one ended
+--   lots_keep      all lots keep theirs, and their stretches fill the step table one after another
+--   well_formed    all of it together: what every sheet is
 use Rattle.std.specs.Prelude.{ℕ, ◌+◌, Bool, true, false, not, ◌&&◌, List, [], ◌∷◌, length, take, drop, Some, None, Option, ◌==◌, nat_le, nat_lt, slice_index_or}
 use Rattle.sheet.specs.declared.records.Side.{Side}
 use Rattle.sheet.specs.declared.records.Side.TheVariants.{Arrival, Departure}

@@ -1,15 +1,15 @@
 -- A whole sheet: what reading answers, and what it leaves in each table.
 --
---   Room          how many cells each of the caller's tables has
---   Reading       the records and steps that are read before the end or the first fault, and the answer
---   reading_of    the reading of some bytes: terms, events, activities, lots, and nothing left over
---   AcceptedSheet    what holds where reading answers Ok
---   read_tables   the tables that an accepted sheet is read into: as much of the caller's as was found
+--   Room           how many cells each of the caller's tables has
+--   Reading        the records and steps that are read before the end or the first fault, and the answer
+--   reading_of     the reading of some bytes: terms, events, activities, lots, and nothing left over
+--   AcceptedSheet  what holds where reading answers Ok
+--   read_tables    the tables that an accepted sheet is read into: as much of the caller's as was found
 use Rattle.std.specs.Prelude.{◌≡◌, ℕ, ◌≤◌, true, List, [], ◌∷◌, length, take, Ok, Err, Result}
 use Rattle.sheet.specs.declared.records.Event.{Event}
 use Rattle.sheet.specs.declared.records.Activity.{Activity}
 use Rattle.sheet.specs.declared.records.Lot.{Lot}
-use Rattle.sheet.specs.Rules.{Tables, tables, well_formed as keeps-rules}
+use Rattle.sheet.specs.Rules.{Tables, tables, well_formed as keeps_rules}
 use Rattle.sheet.specs.Bytes.{bytes_of}
 use Rattle.sheet_read.specs.declared.fault.Section.TheVariants.{Terms, Events, Activities, Lots}
 use Rattle.sheet_read.specs.declared.fault.SheetFault.{SheetFault}
@@ -61,7 +61,7 @@ lots_section_from acts total cells (Ok p) = record {
 }
 
 abbrev pub lots_section_of : List Activity → ℕ → ℕ → ℕ → List ℕ → LotsReading
-lots_section_of acts total lot_cells step-cells bs = lots_section_from acts total step-cells (count_of Lots total lot_cells bs)
+lots_section_of acts total lot_cells step_cells bs = lots_section_from acts total step_cells (count_of Lots total lot_cells bs)
 
 abbrev pub extent : ℕ → ℕ → ℕ → ℕ × ℕ → Extent
 extent period es acts q = record { period = period; events = es; activities = acts; lots = q.0; steps = q.1 }
@@ -101,5 +101,5 @@ FitsIn x es acts ls ss = ((x.events ≤ es) × (x.activities ≤ acts)) × ((x.l
 -- an accepted sheet: the tables that were read keep every rule, and are written back byte by byte
 pub record AcceptedSheet (bs : List ℕ) (x : Extent) (es : List Event) (acts : List Activity) (ls : List Lot) (ss : List ℕ) : Type 0 where
   pub fits : FitsIn x (length es) (length acts) (length ls) (length ss)
-  pub kept : keeps-rules (read_tables x es acts ls ss) ≡ true
+  pub kept : keeps_rules (read_tables x es acts ls ss) ≡ true
   pub written_back : bytes_of (read_tables x es acts ls ss) ≡ bs

@@ -1,9 +1,9 @@
 -- What writing a sheet answers.
 --
---   written_of     how many bytes were written, or that the buffer is too short
---   write_number   the number of the refusal
---   ReadsBack     bytes that are read as a sheet again
---   Within         a lot's stretch lies within the step table
+--   written_of      how many bytes were written, or that the buffer is too short
+--   write_number    the number of the refusal
+--   ReadsBack       bytes that are read as a sheet again
+--   Within          a lot's stretch lies within the step table
 use Rattle.std.specs.Prelude.{◌≡◌, ℕ, ◌+◌, ◌≤◌, cond, List, length, Ok, Err, Result, nat_lt}
 use Rattle.sheet.specs.declared.records.Lot.{Lot}
 use Rattle.sheet.specs.Rules.{Tables}

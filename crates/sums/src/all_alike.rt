@@ -52,14 +52,14 @@ pub fn lost_minutes(sheet: &Sheet) -> u16
 /// The toll of a sheet if every lot ended so many minutes late.
 pub fn all_late<T: Tariff>(tariff: &T, sheet: &Sheet, minutes: u16) -> T::Toll
     requires { minutes ≤ 1440 }
-    ensures { result ≡ late_total (prices tariff.now) minutes (tables_of sheet.now).lots }
+    ensures { result ≡ late_total (T.prices tariff.now) minutes (tables_of sheet.now).lots }
 {
     sum_sheet(tariff, &LateBy { minutes }, sheet)
 }
 
 /// The toll of a sheet if every lot missed a connection.
 pub fn all_missed<T: Tariff>(tariff: &T, sheet: &Sheet) -> T::Toll
-    ensures { result ≡ miss_total (prices tariff.now) sheet.now.period (tables_of sheet.now).lots }
+    ensures { result ≡ miss_total (T.prices tariff.now) sheet.now.period (tables_of sheet.now).lots }
 {
     let minutes = lost_minutes(sheet);
     sum_sheet(tariff, &Missing { minutes }, sheet)

@@ -1,4 +1,6 @@
 //! The sum of charges over lots, written once for every tariff and every way of charging.
+#![tactic(auto)]
+
 pub mod all_alike;
 pub mod charge;
 pub mod plain_sums;

@@ -19,9 +19,9 @@ fn lots_of<'a>(sheet: &Sheet<'a>) -> &'a [Lot]
 
 /// What all the lots of a sheet pay.
 pub fn sum_sheet<T: Tariff, C: Charge<T>>(tariff: &T, charge: &C, sheet: &Sheet) -> T::Toll
-    requires { Each (can charge.now tariff.now) (tables_of sheet.now).lots }
-    ensures answer { result ≡ lots_total (prices tariff.now).tolls (pays charge.now tariff.now) (tables_of sheet.now).lots }
-    ensures light { (prices tariff.now).tolls.bulk result ≤ sheet_bulk }
+    requires { Each (C.can charge.now tariff.now) (tables_of sheet.now).lots }
+    ensures answer { result ≡ lots_total (T.prices tariff.now).tolls (C.pays charge.now tariff.now) (tables_of sheet.now).lots }
+    ensures light { (T.prices tariff.now).tolls.bulk result ≤ sheet_bulk }
 {
     sum_charges(tariff, charge, lots_of(sheet))
 }

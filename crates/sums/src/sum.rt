@@ -9,10 +9,10 @@ use tariff::charges::Tariff;
 
 /// A sum and one lot's charge more.
 fn with_lot<T: Tariff, C: Charge<T>>(tariff: &T, charge: &C, sum: T::Toll, lot: Lot) -> T::Toll
-    requires able { can charge.now tariff.now lot }
-    requires room { (prices tariff.now).tolls.bulk sum + lot_weight lot ≤ cap }
-    ensures answer { result ≡ (prices tariff.now).tolls.plus sum (pays charge.now tariff.now lot) }
-    ensures light { (prices tariff.now).tolls.bulk result ≤ (prices tariff.now).tolls.bulk sum + lot_weight lot }
+    requires able { C.can charge.now tariff.now lot }
+    requires room { (T.prices tariff.now).tolls.bulk sum + lot_weight lot ≤ cap }
+    ensures answer { result ≡ (T.prices tariff.now).tolls.plus sum (C.pays charge.now tariff.now lot) }
+    ensures light { (T.prices tariff.now).tolls.bulk result ≤ (T.prices tariff.now).tolls.bulk sum + lot_weight lot }
 {
     let due = charge.charge(tariff, lot);
     tariff.add(sum, due)
@@ -20,10 +20,10 @@ fn with_lot<T: Tariff, C: Charge<T>>(tariff: &T, charge: &C, sum: T::Toll, lot: 
 
 /// The sum of what the lots pay, in any tariff's toll. The lots' weight has to be within what may be summed.
 pub fn sum_charges<T: Tariff, C: Charge<T>>(tariff: &T, charge: &C, lots: &[Lot]) -> T::Toll
-    requires able { Each (can charge.now tariff.now) lots.now }
+    requires able { Each (C.can charge.now tariff.now) lots.now }
     requires room { lots_weight lots.now ≤ cap }
-    ensures answer { result ≡ lots_total (prices tariff.now).tolls (pays charge.now tariff.now) lots.now }
-    ensures light { (prices tariff.now).tolls.bulk result ≤ lots_weight lots.now }
+    ensures answer { result ≡ lots_total (T.prices tariff.now).tolls (C.pays charge.now tariff.now) lots.now }
+    ensures light { (T.prices tariff.now).tolls.bulk result ≤ lots_weight lots.now }
 {
     let mut sum = tariff.nought();
     for lot in lots {

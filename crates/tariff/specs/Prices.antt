@@ -1,6 +1,6 @@
 -- Prices: what a tariff means.
 --
---   Prices           a kind of toll, and the charge for coming late and for missing, by class, parcels and minutes
+--   Prices          a kind of toll, and the charge for coming late and for missing, by class, parcels and minutes
 --   LawfulPrices    what every tariff keeps, for all whole numbers
 use Rattle.std.specs.Prelude.{◌≡◌, ℕ, ◌*◌, ◌≤◌, true}
 use Rattle.sheet.specs.declared.records.Class.{Class}

@@ -1,9 +1,9 @@
 -- Tolls: what is charged, summed and compared.
 --
---   Tolls           a kind of toll: its nought, its sum, its order, and how bulky a toll is
+--   Tolls          a kind of toll: its nought, its sum, its order, and how bulky a toll is
 --   LawfulTolls    what every kind of toll keeps, for all its tolls
---   numbers         whole numbers as tolls
---   cap             the most bulk that two tolls may have together to be summed
+--   numbers        whole numbers as tolls
+--   cap            the most bulk that two tolls may have together to be summed
 use Rattle.std.specs.Prelude.{◌≡◌, ℕ, ◌+◌, ◌^◌, ◌≤◌, Bool, true, false, leb}
 
 pub record Tolls (A : Type 0) : Type 0 where

@@ -1,6 +1,6 @@
 -- Lots of a day, and their steps, handed on as a part of the step table.
 --
---   LotOf       a lot of the day
+--   LotOf        a lot of the day
 --   Walks        steps to go along: one at least, and each an activity of the day's sheet
 --   lots_on      the yard as far as the lots' ways are concerned, which no rule enters
 --   waits_by     the choice that a table of bytes says: 0 for an activity that waits

@@ -17,9 +17,9 @@ pub(crate) fn handed_on<R: Carry, C: Choosing>(
     lateness: u16,
 ) -> u16
     requires ready { Ready day }
-    requires known { (a < length day.activities.now) × (knows choosing.now a) }
+    requires known { (a < length day.activities.now) × (C.knows choosing.now a) }
     requires short { lateness ≤ 1440 }
-    ensures { result ≡ (if binds (yard_of (hands rule.now) day.entry) (choice choosing.now) a then handed (yard_of (hands rule.now) day.entry) a lateness else 0) }
+    ensures { result ≡ (if binds (yard_of (R.hands rule.now) day.entry) (C.choice choosing.now) a then handed (yard_of (R.hands rule.now) day.entry) a lateness else 0) }
 {
     let margin = day.activities[a].margin;
     match stands(day.activities, day.marks, day.trial, a) {
@@ -43,10 +43,10 @@ fn lateness_at<R: Carry, C: Choosing>(
     late: &[u16],
     e: usize,
 ) -> u16
-    requires ready { (Ready day) × (((a : ℕ) → a < length day.activities.now → knows choosing.now a)) }
+    requires ready { (Ready day) × (((a : ℕ) → a < length day.activities.now → C.knows choosing.now a)) }
     requires within { (e < length day.events.now) × (length day.events.now ≤ length late.now) }
-    requires before { (k : ℕ) → k < e → slice_index late.now k ≡ least (yard_of (hands rule.now) day) (choice choosing.now) k }
-    ensures { result ≡ least (yard_of (hands rule.now) day.entry) (choice choosing.now) e }
+    requires before { (k : ℕ) → k < e → slice_index late.now k ≡ least (yard_of (R.hands rule.now) day) (C.choice choosing.now) k }
+    ensures { result ≡ least (yard_of (R.hands rule.now) day.entry) (C.choice choosing.now) e }
 {
     let mut most = day.delays[e];
     for a in 0..day.activities.len() {
@@ -61,9 +61,9 @@ fn lateness_at<R: Carry, C: Choosing>(
 
 /// Writes the least lateness for a choice, a cell an event; further cells keep their contents.
 pub fn write_least<R: Carry, C: Choosing>(rule: &R, choosing: &C, day: Day, late: &mut [u16])
-    requires ready { (Ready day) × (((a : ℕ) → a < length day.activities.now → knows choosing.now a)) }
+    requires ready { (Ready day) × (((a : ℕ) → a < length day.activities.now → C.knows choosing.now a)) }
     requires room { length day.events.now ≤ length late.old }
-    ensures cells { (e : ℕ) → e < length day.entry.events.now → slice_index late.new e ≡ least (yard_of (hands rule.now) day.entry) (choice choosing.now) e }
+    ensures cells { (e : ℕ) → e < length day.entry.events.now → slice_index late.new e ≡ least (yard_of (R.hands rule.now) day.entry) (C.choice choosing.now) e }
     ensures kept { (e : ℕ) → length day.entry.events.now ≤ e → slice_index late.new e ≡ slice_index late.old e }
 {
     for e in 0..day.events.len() {
@@ -75,7 +75,7 @@ pub fn write_least<R: Carry, C: Choosing>(rule: &R, choosing: &C, day: Day, late
 pub fn write_worst<R: Carry>(rule: &R, day: Day, late: &mut [u16])
     requires ready { Ready day }
     requires room { length day.events.now ≤ length late.old }
-    ensures cells { (e : ℕ) → e < length day.entry.events.now → slice_index late.new e ≡ worst (yard_of (hands rule.now) day.entry) e }
+    ensures cells { (e : ℕ) → e < length day.entry.events.now → slice_index late.new e ≡ worst (yard_of (R.hands rule.now) day.entry) e }
     ensures kept { (e : ℕ) → length day.entry.events.now ≤ e → slice_index late.new e ≡ slice_index late.old e }
 {
     write_least(rule, &AllWait, day, late);

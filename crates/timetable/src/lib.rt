@@ -1,4 +1,6 @@
 //! Timetables over plain slices: the least lateness for given choices, and the worst timetable.
+#![tactic(auto)]
+
 pub mod choosing;
 pub mod day;
 pub mod lateness;

@@ -8,9 +8,9 @@ use carry::rule::Carry;
 
 /// Whether activity `a` is live, where `late` holds the worst timetable.
 pub fn is_live<R: Carry>(rule: &R, day: Day, late: &[u16], a: usize) -> bool
-    requires ready { (Ready day) × (WorstIn (hands rule.now) day late.now) }
+    requires ready { (Ready day) × (WorstIn (R.hands rule.now) day late.now) }
     requires within { a < length day.activities.now }
-    ensures { result ≡ live (yard_of (hands rule.now) day.entry) a }
+    ensures { result ≡ live (yard_of (R.hands rule.now) day.entry) a }
 {
     let activity = day.activities[a];
     match stands(day.activities, day.marks, day.trial, a) {

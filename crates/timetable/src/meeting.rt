@@ -10,9 +10,9 @@ use carry::rule::Carry;
 
 /// Whether activity `a` is live and leads to event `e`.
 fn comes_into<R: Carry>(rule: &R, day: Day, late: &[u16], e: usize, a: usize) -> bool
-    requires ready { (Ready day) × (WorstIn (hands rule.now) day late.now) }
+    requires ready { (Ready day) × (WorstIn (R.hands rule.now) day late.now) }
     requires within { a < length day.activities.now }
-    ensures { result ≡ into (yard_of (hands rule.now) day.entry) e a }
+    ensures { result ≡ into (yard_of (R.hands rule.now) day.entry) e a }
 {
     let head = usize::from(day.activities[a].head);
     is_live(rule, day, late, a) && head == e
@@ -20,9 +20,9 @@ fn comes_into<R: Carry>(rule: &R, day: Day, late: &[u16], e: usize, a: usize) ->
 
 /// How many sources event `e` has: its live incoming activities, and its own delay if it has one.
 fn count_sources<R: Carry>(rule: &R, day: Day, late: &[u16], e: usize) -> usize
-    requires ready { (Ready day) × (WorstIn (hands rule.now) day late.now) }
+    requires ready { (Ready day) × (WorstIn (R.hands rule.now) day late.now) }
     requires within { e < length day.events.now }
-    ensures { result ≡ sources (yard_of (hands rule.now) day.entry) e }
+    ensures { result ≡ sources (yard_of (R.hands rule.now) day.entry) e }
 {
     let mut count = 0;
     for a in 0..day.activities.len() {
@@ -35,8 +35,8 @@ fn count_sources<R: Carry>(rule: &R, day: Day, late: &[u16], e: usize) -> usize
 
 /// The first event where delays meet, where `late` holds the worst timetable.
 pub fn first_meeting<R: Carry>(rule: &R, day: Day, late: &[u16]) -> Option<usize>
-    requires ready { (Ready day) × (WorstIn (hands rule.now) day late.now) }
-    ensures { result ≡ found_first (length day.entry.events.now) (meets (yard_of (hands rule.now) day.entry)) }
+    requires ready { (Ready day) × (WorstIn (R.hands rule.now) day late.now) }
+    ensures { result ≡ found_first (length day.entry.events.now) (meets (yard_of (R.hands rule.now) day.entry)) }
 {
     for e in 0..day.events.len() {
         if count_sources(rule, day, late, e) >= 2 {

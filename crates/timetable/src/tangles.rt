@@ -53,9 +53,9 @@ fn is_transfer(kind: Kind) -> bool
 
 /// Whether lot `i` is tangled, where `late` holds the worst timetable.
 pub fn is_tangled<R: Carry>(rule: &R, day: Day, late: &[u16], i: usize) -> bool
-    requires ready { (Ready day) × (WorstIn (hands rule.now) day late.now) }
+    requires ready { (Ready day) × (WorstIn (R.hands rule.now) day late.now) }
     requires within { i < length day.lots.now }
-    ensures { result ≡ tangled (yard_of (hands rule.now) day.entry) i }
+    ensures { result ≡ tangled (yard_of (R.hands rule.now) day.entry) i }
 {
     let steps = steps_of(day, i);
     let mut passed = Passed {
@@ -75,8 +75,8 @@ pub fn is_tangled<R: Carry>(rule: &R, day: Day, late: &[u16], i: usize) -> bool
 
 /// The first tangled lot, where `late` holds the worst timetable.
 pub fn first_tangled<R: Carry>(rule: &R, day: Day, late: &[u16]) -> Option<usize>
-    requires ready { (Ready day) × (WorstIn (hands rule.now) day late.now) }
-    ensures { result ≡ found_first (length day.entry.lots.now) (tangled (yard_of (hands rule.now) day.entry)) }
+    requires ready { (Ready day) × (WorstIn (R.hands rule.now) day late.now) }
+    ensures { result ≡ found_first (length day.entry.lots.now) (tangled (yard_of (R.hands rule.now) day.entry)) }
 {
     for i in 0..day.lots.len() {
         if is_tangled(rule, day, late, i) {

@@ -40,7 +40,7 @@ impl<T: Tariff> Charge<T> for AsWritten<'_> {
 /// What all lots pay for the choice in `gone` and the lateness in `late`.
 pub fn toll_of<'a, T: Tariff>(tariff: &T, day: Day<'a>, late: &'a [u16], gone: &'a [u8]) -> T::Toll
     requires ready { (Ready day) × (Written day late.now gone.now) }
-    ensures { (rule : ℕ → ℕ → ℕ) → result ≡ cost (prices tariff.now) (yard_of rule day.entry) (waits_by gone.now) (minutes_in late.now) }
+    ensures { (rule : ℕ → ℕ → ℕ) → result ≡ cost (T.prices tariff.now) (yard_of rule day.entry) (waits_by gone.now) (minutes_in late.now) }
 {
     sum_charges(tariff, &AsWritten { day, late, gone }, day.lots)
 }

@@ -64,8 +64,8 @@ impl Board<'_> {
         late: &mut [u16],
         gone: &mut [u8],
     ) -> Result<(T::Toll, usize), Refusal>
-        ensures refuses { result_err result ≡ plan_refusal (yard_on (hands rule.now) (ledger_of self.now)) (plan_room (tables_of self.now.sheet) (length worst.old) (length cells.old) (length late.old) (length gone.old)) }
-        ensures planned { IfOk result (λ answer. PlanIn (prices tariff.now) (yard_on (hands rule.now) (ledger_of self.now)) late.new gone.new answer.0 answer.1) }
+        ensures refuses { result_err result ≡ plan_refusal (yard_on (R.hands rule.now) (ledger_of self.now)) (plan_room (tables_of self.now.sheet) (length worst.old) (length cells.old) (length late.old) (length gone.old)) }
+        ensures planned { IfOk result (λ answer. PlanIn (T.prices tariff.now) (yard_on (R.hands rule.now) (ledger_of self.now)) late.new gone.new answer.0 answer.1) }
         ensures untouched { IfErr result (λ why. (late.new ≡ late.old) × (gone.new ≡ gone.old)) }
         ensures work { IfErr result (λ why. why ≡ ShortTable → (worst.new ≡ worst.old) × (cells.new ≡ cells.old)) }
         ensures late { (e : ℕ) → length self.now.sheet.events.now ≤ e → slice_index late.new e ≡ slice_index late.old e }

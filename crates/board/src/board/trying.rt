@@ -44,8 +44,8 @@ fn toll_on<'d, R: Carry, T: Tariff>(
     cells: &mut [T::Toll],
 ) -> Result<T::Toll, Refusal>
     requires timely { Timely sheet.now.period delays.now }
-    ensures refuses { result_err result ≡ plan_refusal (yard (tables_of sheet.now) (hands rule.now) (delay_on delays.now) (mark_on marks.now trial)) (trial_room (tables_of sheet.now) (length worst.old) (length cells.old)) }
-    ensures toll { IfOk result (λ toll. TollOfPlan (prices tariff.now) (yard (tables_of sheet.now) (hands rule.now) (delay_on delays.now) (mark_on marks.now trial)) toll) }
+    ensures refuses { result_err result ≡ plan_refusal (yard (tables_of sheet.now) (R.hands rule.now) (delay_on delays.now) (mark_on marks.now trial)) (trial_room (tables_of sheet.now) (length worst.old) (length cells.old)) }
+    ensures toll { IfOk result (λ toll. TollOfPlan (T.prices tariff.now) (yard (tables_of sheet.now) (R.hands rule.now) (delay_on delays.now) (mark_on marks.now trial)) toll) }
     ensures work { IfErr result (λ why. number_of why ≤ 15 → (worst.new ≡ worst.old) × (cells.new ≡ cells.old)) }
 {
     let events = sheet.events.len();
@@ -78,8 +78,8 @@ impl Board<'_> {
         worst: &mut [u16],
         cells: &mut [T::Toll],
     ) -> Result<T::Toll, Refusal>
-        ensures refuses { result_err result ≡ trial_refusal (ledger_of self.old) activity (yard_on (hands rule.now) (step (ledger_of self.old) (strike activity))) (trial_room (tables_of self.old.sheet) (length worst.old) (length cells.old)) }
-        ensures toll { IfOk result (λ toll. TollOfPlan (prices tariff.now) (yard_on (hands rule.now) (step (ledger_of self.old) (strike activity))) toll) }
+        ensures refuses { result_err result ≡ trial_refusal (ledger_of self.old) activity (yard_on (R.hands rule.now) (step (ledger_of self.old) (strike activity))) (trial_room (tables_of self.old.sheet) (length worst.old) (length cells.old)) }
+        ensures toll { IfOk result (λ toll. TollOfPlan (T.prices tariff.now) (yard_on (R.hands rule.now) (step (ledger_of self.old) (strike activity))) toll) }
         ensures after { ledger_of self.new ≡ ledger_of self.old }
         ensures work { IfErr result (λ why. number_of why ≤ 15 → (worst.new ≡ worst.old) × (cells.new ≡ cells.old)) }
     {

@@ -2,11 +2,11 @@ use Rattle.std.proofs.Common.{◌≡◌, ℕ, ◌<◌, ◌≤◌, length, sym, a
 use Rattle.timetable.proofs.Loops.{worst_short}
 use Rattle.timetable.proofs.Stances.{leads}
 use Rattle.bills.proofs.Room.{due_so, bill_begun, bill_more, bill_skip, add_room, bill_done}
-use Rattle.bills.proofs.event_bill.bill_at.Goals.{then-goes-on, else-goes-on}
+use Rattle.bills.proofs.event_bill.bill_at.Goals.{then-goes_on, else-goes_on}
 use Rattle.bills.proofs.event_bill.bill_at.Goals as goal
 
-pub late-lots-sum-requires : goal.late-lots-sum-requires
-late-lots-sum-requires g c =
+pub late_lots-sum-requires : goal.late_lots-sum-requires
+late_lots-sum-requires g c =
     let w = c.requires.ready.1 in
     let s = worst_short (g.R.Carry.hands c.args.rule.now) c.args.day (g.met.R.Carry.lawful c.args.rule.now) c.requires.ready.0 c.args.e in
     record {
@@ -20,10 +20,10 @@ loop-a-init g c =
     let p = g.T.Tariff.prices c.args.tariff.now in
     let lawful = g.met.R.Carry.lawful c.args.rule.now in
     let fair = g.met.T.Tariff.lawful c.args.tariff.now in
-    c.late-lots-sum.ensures rule c.requires.ready.1 ∙ bill_begun rule p c.args.day lawful fair c.requires.ready.0 c.requires.clear c.args.e
+    c.late_lots-sum.ensures rule c.requires.ready.1 ∙ bill_begun rule p c.args.day lawful fair c.requires.ready.0 c.requires.clear c.args.e
 
-pub bill-cell-wait-requires : goal.bill-cell-wait-requires
-bill-cell-wait-requires g c =
+pub bill_cell-wait-requires : goal.bill_cell-wait-requires
+bill_cell-wait-requires g c =
     let l = leads c.args.day c.requires.ready.0 c.loop-a.a c.loop-a-test.true in
     omega (arith, l.1, c.from.ensures, c.requires.after.1.room)
 
@@ -33,10 +33,10 @@ add-sum-requires g c =
     let p = g.T.Tariff.prices c.args.tariff.now in
     let lawful = g.met.R.Carry.lawful c.args.rule.now in
     let fair = g.met.T.Tariff.lawful c.args.tariff.now in
-    let t = sym c.goes-on.ensures ∙ c.if-goes-on.true in
-    let u = due_so rule p c.args.day lawful fair c.requires.ready.0 c.requires.clear c.args.e c.loop-a.a c.from.result c.args.cells.now c.bill-cell-wait.result c.lesser-bill.result
-    c.requires.after.1 c.loop-a-test.true t c.from.ensures (c.bill-cell-wait.ensures p.tolls.nought) (c.lesser-bill.ensures rule) in
-    add-room rule p c.args.day lawful fair c.requires.ready.0 c.requires.clear c.args.e c.loop-a.a c.loop-a.sum c.lesser-bill.result c.loop-a-test.true t c.loop-a.invariant u
+    let t = sym c.goes_on.ensures ∙ c.if-goes_on.true in
+    let u = due_so rule p c.args.day lawful fair c.requires.ready.0 c.requires.clear c.args.e c.loop-a.a c.from.result c.args.cells.now c.bill_cell-wait.result c.lesser_bill.result
+    c.requires.after.1 c.loop-a-test.true t c.from.ensures (c.bill_cell-wait.ensures p.tolls.nought) (c.lesser_bill.ensures rule) in
+    add_room rule p c.args.day lawful fair c.requires.ready.0 c.requires.clear c.args.e c.loop-a.a c.loop-a.sum c.lesser_bill.result c.loop-a-test.true t c.loop-a.invariant u
 
 pub loop-a-preserved : goal.loop-a-preserved
 loop-a-preserved g c =
@@ -44,13 +44,13 @@ loop-a-preserved g c =
     let p = g.T.Tariff.prices c.args.tariff.now in
     let lawful = g.met.R.Carry.lawful c.args.rule.now in
     let fair = g.met.T.Tariff.lawful c.args.tariff.now in
-    elim c.if-goes-on.branch [
-      | then-goes-on w ↦
-          (let t = sym c.goes-on.ensures ∙ w.if-goes-on.true in
-          let u = due_so rule p c.args.day lawful fair c.requires.ready.0 c.requires.clear c.args.e c.loop-a.a w.from.result c.args.cells.now w.bill-cell-wait.result w.lesser-bill.result
-          c.requires.after.1 c.loop-a-test.true t w.from.ensures (w.bill-cell-wait.ensures p.tolls.nought) (w.lesser-bill.ensures rule) in
-          w.sum-is ∙ w.add-sum.ensures ∙ bill_more rule p c.args.day lawful fair c.requires.ready.0 c.requires.clear c.args.e c.loop-a.a c.loop-a.sum w.lesser-bill.result t c.loop-a.invariant u)
-      | else-goes-on w ↦ w.sum-is ∙ bill_skip rule p c.args.day lawful fair c.requires.ready.0 c.requires.clear c.args.e c.loop-a.a c.loop-a.sum (sym c.goes-on.ensures ∙ w.if-goes-on.false) c.loop-a.invariant
+    elim c.if-goes_on.branch [
+      | then-goes_on w ↦
+          (let t = sym c.goes_on.ensures ∙ w.if-goes_on.true in
+          let u = due_so rule p c.args.day lawful fair c.requires.ready.0 c.requires.clear c.args.e c.loop-a.a w.from.result c.args.cells.now w.bill_cell-wait.result w.lesser_bill.result
+          c.requires.after.1 c.loop-a-test.true t w.from.ensures (w.bill_cell-wait.ensures p.tolls.nought) (w.lesser_bill.ensures rule) in
+          w.sum-is ∙ w.add-sum.ensures ∙ bill_more rule p c.args.day lawful fair c.requires.ready.0 c.requires.clear c.args.e c.loop-a.a c.loop-a.sum w.lesser_bill.result t c.loop-a.invariant u)
+      | else-goes_on w ↦ w.sum-is ∙ bill_skip rule p c.args.day lawful fair c.requires.ready.0 c.requires.clear c.args.e c.loop-a.a c.loop-a.sum (sym c.goes_on.ensures ∙ w.if-goes_on.false) c.loop-a.invariant
     ]
 
 pub returns : goal.returns

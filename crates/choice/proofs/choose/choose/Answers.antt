@@ -12,8 +12,8 @@ returns g c =
     let d = c.args.day in
     let so = sound (sheet_on d) rule (delay_on d.delays.now) (mark_on d.marks.now d.trial) c.requires.ready.0.formed (g.met.R.Carry.lawful c.args.rule.now) in
     record {
-      chosen = chosen (yard_of rule d) (g.T.Tariff.prices c.args.tariff.now) so c.write-cheap.new.gone c.keep-punctual.new.gone c.write-least.new.late c.write-cheap.ensures.cells c.write-least.ensures.cells (c.keep-punctual.ensures.cells rule);
-      count = c.count-gone.ensures rule;
-      late = c.write-least.ensures.kept;
-      gone = λ a h. c.keep-punctual.ensures.kept a h ∙ c.write-cheap.ensures.kept a h;
+      chosen = chosen (yard_of rule d) (g.T.Tariff.prices c.args.tariff.now) so c.write_cheap.new.gone c.keep_punctual.new.gone c.write_least.new.late c.write_cheap.ensures.cells c.write_least.ensures.cells (c.keep_punctual.ensures.cells rule);
+      count = c.count_gone.ensures rule;
+      late = c.write_least.ensures.kept;
+      gone = λ a h. c.keep_punctual.ensures.kept a h ∙ c.write_cheap.ensures.kept a h;
     }

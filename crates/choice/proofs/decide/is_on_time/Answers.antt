@@ -4,8 +4,8 @@ use Rattle.timetable.proofs.Stances.{decided, leads}
 use Rattle.choice.proofs.Deciding.{open_test, shut_test}
 use Rattle.choice.proofs.decide.is_on_time.Goals as goal
 
-pub offset-bounds-late-tail : goal.offset-bounds-late-tail
-offset-bounds-late-tail c =
+pub offset_bounds-late-tail : goal.offset_bounds-late-tail
+offset_bounds-late-tail c =
     let b : c.from-tail.result < length c.args.late.now = omega (arith, leads c.args.day c.requires.ready.0 c.args.a c.requires.ready.1, c.from-tail.ensures, c.requires.room) in
     search rules
 

@@ -5,7 +5,7 @@ use Rattle.timetable.specs.Days.{yard_of}
 use Rattle.timetable.proofs.Stances.{binding}
 use Rattle.choice.specs.Chosen.{cheap, unless_cheap}
 use Rattle.choice.proofs.Deciding.{waits_so}
-use Rattle.choice.proofs.decide.would_wait.Goals.{then-is-live, else-is-live}
+use Rattle.choice.proofs.decide.would_wait.Goals.{then-is_live, else-is_live}
 use Rattle.choice.proofs.decide.would_wait.Goals as goal
 
 pub returns-in-Bound : goal.returns-in-Bound
@@ -20,15 +20,15 @@ returns-in-Gone g c =
     let z = unless_cheap (g.T.Tariff.prices c.args.tariff.now) (yard_of rule c.args.day) in
     sym (ap (λ (s : Stance). binding s (z c.args.a)) c.in-Gone.is) ∙ waits_so rule c.args.day c.args.a c.stands.result c.stands.ensures z
 
-pub returns-after-is-live : goal.returns-after-is-live
-returns-after-is-live g c =
+pub returns-after-is_live : goal.returns-after-is_live
+returns-after-is_live g c =
     let rule = g.R.Carry.hands c.args.rule.now in
     let p = g.T.Tariff.prices c.args.tariff.now in
     let y = yard_of rule c.args.day in
     let a = c.args.a in
     let z = unless_cheap p y in
-    let v : c.if-is-live.result ≡ (live y a && cheap p y a) = elim c.if-is-live.branch [
-      | then-is-live w ↦ w.result-is ∙ w.is-cheap.ensures rule c.requires.billed ∙ sym (ap (λ (b : Bool). b && cheap p y a) (sym c.is-live.ensures ∙ w.if-is-live.true))
-      | else-is-live w ↦ w.result-is ∙ w.if-is-live.false ∙ sym (ap (λ (b : Bool). b && cheap p y a) (sym c.is-live.ensures ∙ w.if-is-live.false))
+    let v : c.if-is_live.result ≡ (live y a && cheap p y a) = elim c.if-is_live.branch [
+      | then-is_live w ↦ w.result-is ∙ w.is_cheap.ensures rule c.requires.billed ∙ sym (ap (λ (b : Bool). b && cheap p y a) (sym c.is_live.ensures ∙ w.if-is_live.true))
+      | else-is_live w ↦ w.result-is ∙ w.if-is_live.false ∙ sym (ap (λ (b : Bool). b && cheap p y a) (sym c.is_live.ensures ∙ w.if-is_live.false))
     ] in
     ap not v ∙ sym (ap (λ (s : Stance). binding s (z a)) c.in-Open.is) ∙ waits_so rule c.args.day a c.stands.result c.stands.ensures z

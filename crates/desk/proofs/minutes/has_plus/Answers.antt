@@ -8,5 +8,5 @@ no_plus (c ∷ cs) h = absurd (omega arith)
 
 pub returns-else-bytes-gt0 : goal.returns-else-bytes-gt0
 returns-else-bytes-gt0 c =
-    let b = c.as-bytes-bytes.result.now in
-    subst (λ (w : List ℕ). ltb 0 (length b) ≡ eqb (get_or w 0 0) 43) c.as-bytes-bytes.ensures.value (no_plus b (omega arith))
+    let b = c.as_bytes-bytes.result.now in
+    subst (λ (w : List ℕ). ltb 0 (length b) ≡ eqb (get_or w 0 0) 43) c.as_bytes-bytes.ensures.value (no_plus b (omega arith))

@@ -5,13 +5,13 @@ use Rattle.desk.proofs.pack.checked.Goals as goal
 
 pub returns : goal.returns
 returns c =
-    let accepted = c.in-ok-extent.ensures.accepted in
-    let after = c.read-sheet.new in
-    let out = c.in-ok-out.ensures.whole ∙ ap bytes_of c.sheet-in-sheet.ensures in
+    let accepted = c.in_ok-extent.ensures.accepted in
+    let after = c.read_sheet.new in
+    let out = c.in_ok-out.ensures.whole ∙ ap bytes_of c.sheet_in-sheet.ensures in
     record {
       same = out ∙ accepted.written_back;
       packed = record {
-        sheet = read_tables c.in-ok-extent.extent after.events after.activities after.lots after.steps;
+        sheet = read_tables c.in_ok-extent.extent after.events after.activities after.lots after.steps;
         kept = accepted.kept;
         written = sym out;
       };

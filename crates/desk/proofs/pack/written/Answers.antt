@@ -17,14 +17,14 @@ front bs rest more len h = take-take (length bs) len _ h ∙ ap (take (length bs
 pub returns-in-Ok : goal.returns-in-Ok
 returns-in-Ok c =
     let bs = bytes_of (tables_of c.args.sheet.now) in
-    let known = second (ltb (length c.as-mut-slice.result.now) (length bs)) c.in-Ok.count (length bs) _ c.in-Ok.ensures.answer in
-    let fits = ltb-false (length c.as-mut-slice.result.now) (length bs) known.0 in
-    let room : length bs ≤ c.in-ok-bytes.bytes.len = omega (arith, c.as-mut-slice.ensures.len) in
+    let known = second (ltb (length c.as_mut_slice.result.now) (length bs)) c.in-Ok.count (length bs) _ c.in-Ok.ensures.answer in
+    let fits = ltb-false (length c.as_mut_slice.result.now) (length bs) known.0 in
+    let room : length bs ≤ c.in_ok-bytes.bytes.len = omega (arith, c.as_mut_slice.ensures.len) in
     record {
       whole =
           c.truncate.ensures.items
-          ∙ ap (λ (n : ℕ). take n (take c.in-ok-bytes.bytes.len (c.write-sheet.new.out ++ drop (length c.write-sheet.new.out) c.in-ok-bytes.bytes.items))) known.1
-          ∙ ap (λ (out : List ℕ). take (length bs) (take c.in-ok-bytes.bytes.len (out ++ drop (length c.write-sheet.new.out) c.in-ok-bytes.bytes.items))) c.in-Ok.ensures.bytes
-          ∙ front bs (drop (length bs) c.as-mut-slice.result.now) (drop (length c.write-sheet.new.out) c.in-ok-bytes.bytes.items) c.in-ok-bytes.bytes.len room;
+          ∙ ap (λ (n : ℕ). take n (take c.in_ok-bytes.bytes.len (c.write_sheet.new.out ++ drop (length c.write_sheet.new.out) c.in_ok-bytes.bytes.items))) known.1
+          ∙ ap (λ (out : List ℕ). take (length bs) (take c.in_ok-bytes.bytes.len (out ++ drop (length c.write_sheet.new.out) c.in_ok-bytes.bytes.items))) c.in-Ok.ensures.bytes
+          ∙ front bs (drop (length bs) c.as_mut_slice.result.now) (drop (length c.write_sheet.new.out) c.in_ok-bytes.bytes.items) c.in_ok-bytes.bytes.len room;
       memory = tt;
     }

@@ -49,6 +49,6 @@ returns g c =
         record { logged = k; ended = end },
         whole_law (g.T.Tariff.prices c.args.tariff.now) (g.R.Carry.hands c.args.rule.now) (g.Q.Reserving.measures c.args.reserving.now) (tables_of c.args.sheet) c.args.number calls l _ c.plan-plan.result _
             inv.1.1.1 room c.plan-plan.ensures.planned c.plan-plan.ensures.refuses
-            (λ m h. c.write-last.ensures m (ap (for_events l.sheet) kept.reserves ∙ h)),
+            (λ m h. c.write_last.ensures m (ap (for_events l.sheet) kept.reserves ∙ h)),
       ),
     )

@@ -8,5 +8,5 @@ pub returns-in-Some : goal.returns-in-Some
 returns-in-Some g c = λ m h.
     law_made c.reserve.result _ (c.reserve.ensures.refuses ∙ roomy_reserve (ledger_of c.args.board.now).sheet (length c.args.reserves.now) h) c.reserve.ensures.law
 
-pub returns-in-default : goal.returns-in-default
-returns-in-default g c = λ m h. absurd (both_ways (g.Q.Reserving.measures c.args.reserving.now) (sym c.in-default.ensures) m)
+pub returns-in_default : goal.returns-in_default
+returns-in_default g c = λ m h. absurd (both_ways (g.Q.Reserving.measures c.args.reserving.now) (sym c.in_default.ensures) m)

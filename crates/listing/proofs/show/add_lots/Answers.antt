@@ -1,11 +1,11 @@
-use Rattle.std.proofs.Common.{◌≡◌, ℕ, ◌<◌, Bool, true, cond, ltb, List, ◌++◌, length, Some, None, string_bytes, Option, sym, ap, ◌∙◌, arith, lt-ltb}
+use Rattle.std.proofs.Common.{◌≡◌, ℕ, ◌<◌, Bool, cond, List, ◌++◌, length, Some, None, string_bytes, ap, ◌∙◌, arith, lt-ltb}
 use Rattle.sheet.specs.Rules.{Tables, stretch, lot_at, no_lot}
 use Rattle.sheet.specs.Sheets.{tables_of, steps_at}
 use Rattle.listing.specs.Lines.{lot_line}
 use Rattle.listing.specs.Listing.{ended, ended_lot}
 use Rattle.listing.proofs.Joined.{grows, has_all}
 use Rattle.listing.proofs.show.add_lots.Goals as goal
-use Rattle.listing.proofs.show.add_lots.Goals.{in-Some+in-ok-writeln, in-default}
+use Rattle.listing.proofs.show.add_lots.Goals.{in-Some+in_ok-writeln, in_default}
 
 -- a lot of the sheet has its stretch
 steps_there : (t : Tables) (i : ℕ) → i < length t.lots → steps_at t i ≡ Some (stretch (lot_at t.lots i) t.steps)
@@ -21,11 +21,11 @@ pub loop-i-preserved : goal.loop-i-preserved
 loop-i-preserved c =
     let t = tables_of c.args.sheet.now in
     let lot = lot_at t.lots c.loop-i.i in
-    elim c.match-steps-of.branch [
-      | in-Some+in-ok-writeln w ↦
-          grows (ended_lot t.steps) (string_bytes c.args.text.now) (string_bytes c.loop-i.text) (string_bytes c.match-steps-of.text) t.lots c.loop-i.i no_lot c.loop-i-test.true c.loop-i.invariant
-          (ap string_bytes w.text-is ∙ w.in-ok-writeln.ensures.bytes ∙ ap (λ (l : List ℕ). string_bytes c.loop-i.text ++ ended (lot_line lot.class lot.parcels l)) (own_steps t c.loop-i.i w.in-Some.steps.now c.loop-i-test.true w.in-Some.ensures))
-      | in-default w ↦ absurd (never_none t c.loop-i.i c.loop-i-test.true w.in-default.ensures)
+    elim c.match-steps_of.branch [
+      | in-Some+in_ok-writeln w ↦
+          grows (ended_lot t.steps) (string_bytes c.args.text.now) (string_bytes c.loop-i.text) (string_bytes c.match-steps_of.text) t.lots c.loop-i.i no_lot c.loop-i-test.true c.loop-i.invariant
+          (ap string_bytes w.text-is ∙ w.in_ok-writeln.ensures.bytes ∙ ap (λ (l : List ℕ). string_bytes c.loop-i.text ++ ended (lot_line lot.class lot.parcels l)) (own_steps t c.loop-i.i w.in-Some.steps.now c.loop-i-test.true w.in-Some.ensures))
+      | in_default w ↦ absurd (never_none t c.loop-i.i c.loop-i-test.true w.in_default.ensures)
     ]
 
 pub returns : goal.returns

@@ -10,9 +10,9 @@ high_low n h = let small : n / 256 < 256 = omega arith in ap (λ (b : ℕ). b �
 pub loop-number-preserved : goal.loop-number-preserved
 loop-number-preserved c =
     let n = get_or c.args.numbers.now c.loop-number.number-index 0 in
-    let h : n < 65536 = omega (arith, c.type-inv.numbers c.loop-number.number-index) in
-    grows number_bytes (vec_items c.args.bytes.now) (vec_items c.loop-number.bytes) (vec_items c.extend-from-slice.new.self) c.args.numbers.now c.loop-number.number-index 0 c.loop-number-test.true c.loop-number.invariant
-    (c.in-ok-extend-from-slice.ensures.items ∙ ap (λ (l : List ℕ). vec_items c.loop-number.bytes ++ l) (c.to-be-bytes.ensures ∙ high_low n h))
+    let h : n < 65536 = omega (arith, c.type_inv.numbers c.loop-number.number-index) in
+    grows number_bytes (vec_items c.args.bytes.now) (vec_items c.loop-number.bytes) (vec_items c.extend_from_slice.new.self) c.args.numbers.now c.loop-number.number-index 0 c.loop-number-test.true c.loop-number.invariant
+    (c.in_ok-extend_from_slice.ensures.items ∙ ap (λ (l : List ℕ). vec_items c.loop-number.bytes ++ l) (c.to_be_bytes.ensures ∙ high_low n h))
 
 pub returns : goal.returns
 returns c = has_all number_bytes (vec_items c.args.bytes.now) (vec_items c.loop-number.bytes) c.args.numbers.now c.loop-number.number-index c.loop-number-test.false c.loop-number.invariant

@@ -2,21 +2,21 @@ use Rattle.std.proofs.Common.{sym, refl, ◌∙◌, rules}
 use Rattle.listing_read.proofs.Said.{none_from_err, activity_says}
 use Rattle.listing_read.proofs.words.read_activity.Goals as goal
 
-pub returns-in-err-read-number : goal.returns-in-err-read-number
-returns-in-err-read-number c =
-    none_from_err _ c.from-residual.ensures.0
-    ∙ sym (activity_says c.args.kind c.args.words.now _ _ _ _ (search rules) c.in-err-read-number.ensures.answer refl refl)
+pub returns-in_err-read_number : goal.returns-in_err-read_number
+returns-in_err-read_number c =
+    none_from_err _ c.from_residual.ensures.0
+    ∙ sym (activity_says c.args.kind c.args.words.now _ _ _ _ (search rules) c.in_err-read_number.ensures.answer refl refl)
 
-pub returns-in-err-read-number-2 : goal.returns-in-err-read-number-2
-returns-in-err-read-number-2 c =
-    none_from_err _ c.from-residual-in-err-read-number-2.ensures.0
-    ∙ sym (activity_says c.args.kind c.args.words.now _ _ _ _ (search rules) c.in-ok-read-number.ensures.answer c.in-err-read-number-2.ensures.answer refl)
+pub returns-in_err-read_number-2 : goal.returns-in_err-read_number-2
+returns-in_err-read_number-2 c =
+    none_from_err _ c.from_residual-in_err-read_number-2.ensures.0
+    ∙ sym (activity_says c.args.kind c.args.words.now _ _ _ _ (search rules) c.in_ok-read_number.ensures.answer c.in_err-read_number-2.ensures.answer refl)
 
-pub returns-in-err-read-number-3 : goal.returns-in-err-read-number-3
-returns-in-err-read-number-3 c =
-    none_from_err _ c.from-residual-in-err-read-number-3.ensures.0
-    ∙ sym (activity_says c.args.kind c.args.words.now _ _ _ _ (search rules) c.in-ok-read-number.ensures.answer c.in-ok-read-number-2.ensures.answer c.in-err-read-number-3.ensures.answer)
+pub returns-in_err-read_number-3 : goal.returns-in_err-read_number-3
+returns-in_err-read_number-3 c =
+    none_from_err _ c.from_residual-in_err-read_number-3.ensures.0
+    ∙ sym (activity_says c.args.kind c.args.words.now _ _ _ _ (search rules) c.in_ok-read_number.ensures.answer c.in_ok-read_number-2.ensures.answer c.in_err-read_number-3.ensures.answer)
 
 pub returns : goal.returns
 returns c =
-    sym (activity_says c.args.kind c.args.words.now _ _ _ _ (search rules) c.in-ok-read-number.ensures.answer c.in-ok-read-number-2.ensures.answer c.in-ok-read-number-3.ensures.answer)
+    sym (activity_says c.args.kind c.args.words.now _ _ _ _ (search rules) c.in_ok-read_number.ensures.answer c.in_ok-read_number-2.ensures.answer c.in_ok-read_number-3.ensures.answer)

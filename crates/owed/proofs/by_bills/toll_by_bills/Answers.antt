@@ -4,16 +4,16 @@ use Rattle.owed.proofs.by_bills.toll_by_bills.Goals.{then-day-e-gt0, else-day-e-
 use Rattle.owed.proofs.by_bills.toll_by_bills.Goals as goal
 
 pub loop-e-init : goal.loop-e-init
-loop-e-init g c = sum_begun (g.T.Tariff.prices c.args.tariff.now) c.args.day c.args.cells.now c.struck-charges-sum.result (c.struck-charges-sum.ensures (λ margin lateness. 0))
+loop-e-init g c = sum_begun (g.T.Tariff.prices c.args.tariff.now) c.args.day c.args.cells.now c.struck_charges-sum.result (c.struck_charges-sum.ensures (λ margin lateness. 0))
 
-pub bill-cell-requires : goal.bill-cell-requires
-bill-cell-requires g c = omega (arith, c.loop-e-test.true, c.requires.billed.billed.room)
+pub bill_cell-requires : goal.bill_cell-requires
+bill_cell-requires g c = omega (arith, c.loop-e-test.true, c.requires.billed.billed.room)
 
 pub add-sum-requires : goal.add-sum-requires
 add-sum-requires g c =
     let p = g.T.Tariff.prices c.args.tariff.now in
-    add-room p c.args.day c.args.cells.now (g.met.T.Tariff.lawful c.args.tariff.now) c.requires.ready c.requires.billed c.loop-e.e c.loop-e.sum c.bill-cell.result c.loop-e-test.true
-    (is_delayed c.args.day c.loop-e.e c.loop-e-test.true c.if-day-e-gt0.true) c.loop-e.invariant (c.bill-cell.ensures p.tolls.nought)
+    add_room p c.args.day c.args.cells.now (g.met.T.Tariff.lawful c.args.tariff.now) c.requires.ready c.requires.billed c.loop-e.e c.loop-e.sum c.bill_cell.result c.loop-e-test.true
+    (is_delayed c.args.day c.loop-e.e c.loop-e-test.true c.if-day-e-gt0.true) c.loop-e.invariant (c.bill_cell.ensures p.tolls.nought)
 
 pub loop-e-preserved : goal.loop-e-preserved
 loop-e-preserved g c =
@@ -21,7 +21,7 @@ loop-e-preserved g c =
     elim c.if-day-e-gt0.branch [
       | then-day-e-gt0 w ↦
           w.sum-is ∙ w.add-sum.ensures
-          ∙ sum_more p c.args.day c.args.cells.now c.loop-e.e c.loop-e.sum w.bill-cell.result (is_delayed c.args.day c.loop-e.e c.loop-e-test.true w.if-day-e-gt0.true) c.loop-e.invariant (w.bill-cell.ensures p.tolls.nought)
+          ∙ sum_more p c.args.day c.args.cells.now c.loop-e.e c.loop-e.sum w.bill_cell.result (is_delayed c.args.day c.loop-e.e c.loop-e-test.true w.if-day-e-gt0.true) c.loop-e.invariant (w.bill_cell.ensures p.tolls.nought)
       | else-day-e-gt0 w ↦
           w.sum-is ∙ sum_skip p c.args.day c.args.cells.now c.loop-e.e c.loop-e.sum (not_delayed c.args.day c.loop-e.e c.loop-e-test.true w.if-day-e-gt0.false) c.loop-e.invariant
     ]

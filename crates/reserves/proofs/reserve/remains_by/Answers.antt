@@ -5,8 +5,8 @@ use Rattle.timetable.proofs.Stances.{margin_short}
 use Rattle.reserves.proofs.Leavings.{head_room, head_reserve, head_short, remaining_so}
 use Rattle.reserves.proofs.reserve.remains_by.Goals as goal
 
-pub offset-bounds-reserves-from : goal.offset-bounds-reserves-from
-offset-bounds-reserves-from g c =
+pub offset_bounds-reserves-from : goal.offset_bounds-reserves-from
+offset_bounds-reserves-from g c =
     let w = head_room (g.R.Carry.hands c.args.rule.now) c.args.day (g.met.R.Carry.lawful c.args.rule.now) c.requires.ready c.args.a c.requires.within c.args.reserves.now c.requires.after c.from.result c.from.ensures in
     search rules
 

@@ -8,6 +8,6 @@ loop-e-preserved g c =
     let n = length c.args.day.events.now in
     let lt : e < n = omega (arith, c.loop-e-test.true, c.loop-e.auto.e) in
     let room : e < length c.loop-e.reserves = omega (arith, lt, c.loop-e.auto.reserves, c.requires.room) in (
-      one_below 0 c.loop-e.reserves e c.reserve-at.result n _ room (λ k h. c.loop-e.invariant.0 k (omega arith)) c.reserve-at.ensures,
-      beyond 0 c.loop-e.reserves e c.reserve-at.result n c.args.reserves.now lt c.loop-e.invariant.1,
+      one_below 0 c.loop-e.reserves e c.reserve_at.result n _ room (λ k h. c.loop-e.invariant.0 k (omega arith)) c.reserve_at.ensures,
+      beyond 0 c.loop-e.reserves e c.reserve_at.result n c.args.reserves.now lt c.loop-e.invariant.1,
     )

@@ -18,19 +18,19 @@ returns c =
 same_room : (activities : List Activity) (total a b : ℕ) (s : ℕ × ℕ) (bs : List ℕ) (o : LotRead) → a ≡ b → lot_of activities total a s bs ≡ o → lot_of activities total b s bs ≡ o
 same_room activities total a b s bs o e h = ap (λ (k : ℕ). lot_of activities total k s bs) (sym e) ∙ h
 
-pub returns-in-err-lot : goal.returns-in-err-lot
-returns-in-err-lot c =
-    let p = err_from_is_err_and c.from-residual.result c.from-residual.ensures.1 in
-    let e = read_err c.read-lot.result _ _ c.read-lot.ensures.answer c.in-err-lot.was in
+pub returns-in_err-lot : goal.returns-in_err-lot
+returns-in_err-lot c =
+    let p = err_from_is_err_and c.from_residual.result c.from_residual.ensures.1 in
+    let e = read_err c.read_lot.result _ _ c.read_lot.ensures.answer c.in_err-lot.was in
     let b = lot_broken (lot_of c.args.activities.now c.args.total (length c.loop-i.steps) (c.loop-i.i, c.loop-i.used) c.loop-i.rest.now) _ e in
     let k = same_room c.args.activities.now c.args.total (length c.loop-i.steps) (length c.args.steps.now) (c.loop-i.i, c.loop-i.used) c.loop-i.rest.now _ c.loop-i.auto.steps b in
-    let d = lots_fault _ _ _ _ _ _ _ _ _ _ _ _ _ _ _ c.loop-i.invariant c.loop-i-test.true k c.read-lot.ensures.cells in
+    let d = lots_fault _ _ _ _ _ _ _ _ _ _ _ _ _ _ _ c.loop-i.invariant c.loop-i-test.true k c.read_lot.ensures.cells in
     record { answer = rw (p.1, p.2) (sym d.answers); lots = d.lots_hold; steps = d.steps_hold }
 
 pub loop-i-preserved : goal.loop-i-preserved
 loop-i-preserved c =
-    let e = read_ok c.read-lot.result _ _ c.read-lot.ensures.answer c.in-ok-lot.was in
+    let e = read_ok c.read_lot.result _ _ c.read_lot.ensures.answer c.in_ok-lot.was in
     let b = lot_whole (lot_of c.args.activities.now c.args.total (length c.loop-i.steps) (c.loop-i.i, c.loop-i.used) c.loop-i.rest.now) _ _ e in
     let k = same_room c.args.activities.now c.args.total (length c.loop-i.steps) (length c.args.steps.now) (c.loop-i.i, c.loop-i.used) c.loop-i.rest.now _ c.loop-i.auto.steps b in
     let l : c.loop-i.i < length c.args.lots.now = omega (arith, c.loop-i-test.true, c.requires) in
-    rw c.from.ensures (lots_more _ _ _ _ _ _ _ _ _ _ _ _ _ _ _ _ refl c.loop-i.invariant c.loop-i-test.true l k c.read-lot.ensures.cells)
+    rw c.from.ensures (lots_more _ _ _ _ _ _ _ _ _ _ _ _ _ _ _ _ refl c.loop-i.invariant c.loop-i-test.true l k c.read_lot.ensures.cells)

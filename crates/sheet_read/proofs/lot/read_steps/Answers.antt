@@ -18,17 +18,17 @@ told activities lot total from rest at o e h = ap (λ (a : Spot). step_of activi
 pub loop-i-init : goal.loop-i-init
 loop-i-init c = filled_none _ _ _ _ _ _ _
 
-pub returns-in-err-step : goal.returns-in-err-step
-returns-in-err-step c =
-    let p = err_from_is_err_and c.from-residual.result c.from-residual.ensures.1 in
-    let e = read_err c.read-step.result _ _ c.read-step.ensures c.in-err-step.was in
+pub returns-in_err-step : goal.returns-in_err-step
+returns-in_err-step c =
+    let p = err_from_is_err_and c.from_residual.result c.from_residual.ensures.1 in
+    let e = read_err c.read_step.result _ _ c.read_step.ensures c.in_err-step.was in
     let t = told c.args.activities.now c.args.lot c.args.total c.loop-i.from c.loop-i.rest.now c.spot-at.result _ c.spot-at.ensures e in
     let d = filled_fault _ _ _ _ _ _ _ _ _ _ _ _ c.loop-i.invariant c.loop-i-test.true t in
     record { answer = rw (p.1, p.2) (sym d.0); cells = d.1 }
 
 pub loop-i-preserved : goal.loop-i-preserved
 loop-i-preserved c =
-    let e = read_ok c.read-step.result _ _ c.read-step.ensures c.in-ok-step.was in
+    let e = read_ok c.read_step.result _ _ c.read_step.ensures c.in_ok-step.was in
     let t = told c.args.activities.now c.args.lot c.args.total c.loop-i.from c.loop-i.rest.now c.spot-at.result _ c.spot-at.ensures e in
     let k : c.args.used + c.from.result < length c.args.steps.now = omega (arith, c.from.ensures, c.loop-i-test.true, c.requires) in
     rw c.from-in-loop-i.ensures (filled_more _ _ _ _ _ _ _ _ _ _ _ _ _ _ c.loop-i.invariant c.loop-i-test.true (omega (arith, c.from.ensures)) k t)

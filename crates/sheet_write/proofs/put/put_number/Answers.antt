@@ -10,6 +10,6 @@ returns c =
     record {
       answer = refl;
       bytes = two_laid c.args.at _ _ c.args.out.now c.requires
-          ∙ ap (λ (bs : List ℕ). laid c.args.at (get_or bs 0 0 ∷ get_or bs 1 0 ∷ []) c.args.out.now) c.to-be-bytes.ensures
+          ∙ ap (λ (bs : List ℕ). laid c.args.at (get_or bs 0 0 ∷ get_or bs 1 0 ∷ []) c.args.out.now) c.to_be_bytes.ensures
           ∙ ap (λ (n : ℕ). laid c.args.at (n ∷ c.args.number % 256 ∷ []) c.args.out.now) high;
     }

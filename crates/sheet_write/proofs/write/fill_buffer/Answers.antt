@@ -10,33 +10,33 @@ use Rattle.sheet_write.proofs.Sizes.{parts_length, all_within}
 use Rattle.sheet_write.proofs.Back.{sizes}
 use Rattle.sheet_write.proofs.write.fill_buffer.Goals as goal
 
-pub put-section-at-requires-2 : goal.put-section-at-requires-2
-put-section-at-requires-2 c =
+pub put_section-at-requires-2 : goal.put_section-at-requires-2
+put_section-at-requires-2 c =
     let t = tables_of c.args.sheet.now in
     let n = parts_length t in
     let f = sizes t c.args.sheet.now.kept in
-    (omega (arith, f), omega (arith, n, c.size-of-needed.ensures, c.if-out-needed.false, c.put-section-at.ensures.answer, c.put-section-at.auto.out))
+    (omega (arith, f), omega (arith, n, c.size_of-needed.ensures, c.if-out-needed.false, c.put_section-at.ensures.answer, c.put_section-at.auto.out))
 
-pub put-section-at-requires-3 : goal.put-section-at-requires-3
-put-section-at-requires-3 c =
+pub put_section-at-requires-3 : goal.put_section-at-requires-3
+put_section-at-requires-3 c =
     let t = tables_of c.args.sheet.now in
     let n = parts_length t in
     let f = sizes t c.args.sheet.now.kept in (
       omega (arith, f),
-      omega (arith, n, c.size-of-needed.ensures, c.if-out-needed.false, c.put-section-at.ensures.answer, c.put-section-at-2.ensures.answer, c.put-section-at.auto.out, c.put-section-at-2.auto.out),
+      omega (arith, n, c.size_of-needed.ensures, c.if-out-needed.false, c.put_section-at.ensures.answer, c.put_section-at-2.ensures.answer, c.put_section-at.auto.out, c.put_section-at-2.auto.out),
     )
 
-pub put-number-at-requires : goal.put-number-at-requires
-put-number-at-requires c =
+pub put_number-at-requires : goal.put_number-at-requires
+put_number-at-requires c =
     let n = parts_length (tables_of c.args.sheet.now) in
-    omega (arith, n, c.size-of-needed.ensures, c.if-out-needed.false, c.put-section-at.ensures.answer, c.put-section-at-2.ensures.answer, c.put-section-at-3.ensures.answer, c.put-section-at.auto.out, c.put-section-at-2.auto.out, c.put-section-at-3.auto.out)
+    omega (arith, n, c.size_of-needed.ensures, c.if-out-needed.false, c.put_section-at.ensures.answer, c.put_section-at-2.ensures.answer, c.put_section-at-3.ensures.answer, c.put_section-at.auto.out, c.put_section-at-2.auto.out, c.put_section-at-3.auto.out)
 
-pub put-lots-requires : goal.put-lots-requires
-put-lots-requires c =
+pub put_lots-requires : goal.put_lots-requires
+put_lots-requires c =
     let t = tables_of c.args.sheet.now in
     let n = parts_length t in (
       all_within t c.args.sheet.now.kept,
-      omega (arith, n, c.size-of-needed.ensures, c.if-out-needed.false, c.put-section-at.ensures.answer, c.put-section-at-2.ensures.answer, c.put-section-at-3.ensures.answer, c.put-number-at.ensures.answer, c.put-section-at.auto.out, c.put-section-at-2.auto.out, c.put-section-at-3.auto.out, c.put-number-at.auto.out),
+      omega (arith, n, c.size_of-needed.ensures, c.if-out-needed.false, c.put_section-at.ensures.answer, c.put_section-at-2.ensures.answer, c.put_section-at-3.ensures.answer, c.put_number-at.ensures.answer, c.put_section-at.auto.out, c.put_section-at-2.auto.out, c.put_section-at-3.auto.out, c.put_number-at.auto.out),
     )
 
 -- enough room: the count is answered
@@ -49,33 +49,33 @@ returns c =
     let t = tables_of s in
     let old = c.args.out.now in
     let n = parts_length t in
-    let room : length (bytes_of t) ≤ length old = omega (arith, c.size-of-needed.ensures, c.if-out-needed.false) in
+    let room : length (bytes_of t) ≤ length old = omega (arith, c.size_of-needed.ensures, c.if-out-needed.false) in
     let terms = section_bytes number_bytes (s.period ∷ []) in
     let events = section_bytes event_bytes s.events.now in
     let activities = section_bytes activity_bytes s.activities.now in
     let count = number_bytes (length s.lots.now) in
     let lots = flat_map (lot_bytes s.steps.now) s.lots.now in
-    let r₁ = c.put-section-at.ensures in
-    let r₂ = c.put-section-at-2.ensures in
-    let r₃ = c.put-section-at-3.ensures in
-    let r₄ = c.put-number-at.ensures in
-    let r₅ = c.put-lots.ensures in
-    let k₁ : length c.put-section-at.new.out ≡ length old = c.put-section-at.auto.out in
-    let k₂ : length c.put-section-at-2.new.out ≡ length c.put-section-at.new.out = c.put-section-at-2.auto.out in
-    let k₃ : length c.put-section-at-3.new.out ≡ length c.put-section-at-2.new.out = c.put-section-at-3.auto.out in
-    let a₁ : c.put-section-at.result ≡ 4 = r₁.answer in
-    let a₂ : c.put-section-at-2.result ≡ c.put-section-at.result + length events = r₂.answer in
-    let a₃ : c.put-section-at-3.result ≡ c.put-section-at-2.result + length activities = r₃.answer in
-    let a₄ : c.put-number-at.result ≡ c.put-section-at-3.result + 2 = r₄.answer in
-    let a₅ : c.put-lots.result ≡ c.put-number-at.result + length lots = r₅.answer in
-    let f₃ : c.put-section-at-3.result + 2 ≤ length c.put-section-at-3.new.out = omega arith in
-    let f₂ : c.put-section-at-2.result + length activities ≤ length c.put-section-at-2.new.out = omega arith in
-    let f₁ : c.put-section-at.result + length events ≤ length c.put-section-at.new.out = omega arith in
+    let r₁ = c.put_section-at.ensures in
+    let r₂ = c.put_section-at-2.ensures in
+    let r₃ = c.put_section-at-3.ensures in
+    let r₄ = c.put_number-at.ensures in
+    let r₅ = c.put_lots.ensures in
+    let k₁ : length c.put_section-at.new.out ≡ length old = c.put_section-at.auto.out in
+    let k₂ : length c.put_section-at-2.new.out ≡ length c.put_section-at.new.out = c.put_section-at-2.auto.out in
+    let k₃ : length c.put_section-at-3.new.out ≡ length c.put_section-at-2.new.out = c.put_section-at-3.auto.out in
+    let a₁ : c.put_section-at.result ≡ 4 = r₁.answer in
+    let a₂ : c.put_section-at-2.result ≡ c.put_section-at.result + length events = r₂.answer in
+    let a₃ : c.put_section-at-3.result ≡ c.put_section-at-2.result + length activities = r₃.answer in
+    let a₄ : c.put_number-at.result ≡ c.put_section-at-3.result + 2 = r₄.answer in
+    let a₅ : c.put_lots.result ≡ c.put_number-at.result + length lots = r₅.answer in
+    let f₃ : c.put_section-at-3.result + 2 ≤ length c.put_section-at-3.new.out = omega arith in
+    let f₂ : c.put_section-at-2.result + length activities ≤ length c.put_section-at-2.new.out = omega arith in
+    let f₁ : c.put_section-at.result + length events ≤ length c.put_section-at.new.out = omega arith in
     let f₀ : 0 + length terms ≤ length old = omega arith in
-    let o₃ = laid_then c.put-section-at-3.result c.put-number-at.result count lots c.put-section-at-3.new.out c.put-number-at.new.out c.put-lots.new.out a₄ f₃ r₄.bytes r₅.bytes in
-    let o₂ = laid_then c.put-section-at-2.result c.put-section-at-3.result activities (count ++ lots) c.put-section-at-2.new.out c.put-section-at-3.new.out c.put-lots.new.out a₃ f₂ r₃.bytes o₃ in
-    let o₁ = laid_then c.put-section-at.result c.put-section-at-2.result events (activities ++ (count ++ lots)) c.put-section-at.new.out c.put-section-at-2.new.out c.put-lots.new.out a₂ f₁ r₂.bytes o₂ in
+    let o₃ = laid_then c.put_section-at-3.result c.put_number-at.result count lots c.put_section-at-3.new.out c.put_number-at.new.out c.put_lots.new.out a₄ f₃ r₄.bytes r₅.bytes in
+    let o₂ = laid_then c.put_section-at-2.result c.put_section-at-3.result activities (count ++ lots) c.put_section-at-2.new.out c.put_section-at-3.new.out c.put_lots.new.out a₃ f₂ r₃.bytes o₃ in
+    let o₁ = laid_then c.put_section-at.result c.put_section-at-2.result events (activities ++ (count ++ lots)) c.put_section-at.new.out c.put_section-at-2.new.out c.put_lots.new.out a₂ f₁ r₂.bytes o₂ in
     record {
-      answer = counted c.put-lots.result (length (bytes_of t)) (length old) (omega arith) room;
-      bytes = laid_then 0 c.put-section-at.result terms (events ++ (activities ++ (count ++ lots))) old c.put-section-at.new.out c.put-lots.new.out a₁ f₀ r₁.bytes o₁;
+      answer = counted c.put_lots.result (length (bytes_of t)) (length old) (omega arith) room;
+      bytes = laid_then 0 c.put_section-at.result terms (events ++ (activities ++ (count ++ lots))) old c.put_section-at.new.out c.put_lots.new.out a₁ f₀ r₁.bytes o₁;
     }

@@ -24,10 +24,10 @@ again t (Ok n) old out a b h =
 
 pub returns : goal.returns
 returns c =
-    let f = c.fill-buffer.ensures in
+    let f = c.fill_buffer.ensures in
     let s = c.args.sheet.now in
     record {
       answer = f.answer;
       bytes = f.bytes;
-      read_back = again (tables_of s) c.fill-buffer.result c.args.out.now c.fill-buffer.new.out f.answer f.bytes (read_back (tables_of s) s.kept);
+      read_back = again (tables_of s) c.fill_buffer.result c.args.out.now c.fill_buffer.new.out f.answer f.bytes (read_back (tables_of s) s.kept);
     }

@@ -11,16 +11,16 @@ loop-lot-init g c = (
   nought_light _ (g.met.T.Tariff.lawful c.args.tariff.now).tolls (paid_at lot_weight c.args.lots.now) _ c.nought-sum.ensures,
 )
 
-pub with-lot-sum-requires : goal.with-lot-sum-requires
-with-lot-sum-requires g c = record {
+pub with_lot-sum-requires : goal.with_lot-sum-requires
+with_lot-sum-requires g c = record {
   able = c.requires.able c.loop-lot.lot-index c.loop-lot-test.true;
   room = weight_fits (paid_at lot_weight c.args.lots.now) (length c.args.lots.now) c.loop-lot.lot-index cap _ c.requires.room c.loop-lot-test.true c.loop-lot.invariant.1;
 }
 
 pub loop-lot-preserved : goal.loop-lot-preserved
 loop-lot-preserved g c = (
-  total_more _ _ _ _ _ c.loop-lot.invariant.0 c.with-lot-sum.ensures.answer,
-  weight_more (paid_at lot_weight c.args.lots.now) c.loop-lot.lot-index _ _ c.loop-lot.invariant.1 c.with-lot-sum.ensures.light,
+  total_more _ _ _ _ _ c.loop-lot.invariant.0 c.with_lot-sum.ensures.answer,
+  weight_more (paid_at lot_weight c.args.lots.now) c.loop-lot.lot-index _ _ c.loop-lot.invariant.1 c.with_lot-sum.ensures.light,
 )
 
 pub returns : goal.returns

@@ -7,19 +7,20 @@ use Rattle.timetable.specs.Days.{yard_of}
 use Rattle.timetable.proofs.Loops.{top_none, top_more, top_skip, ordered, least_so, least_short, brings_here, brings_elsewhere}
 use Rattle.timetable.proofs.lateness.lateness_at.Given as given
 use Rattle.timetable.proofs.lateness.lateness_at.Goals as goal
+use Rattle.timetable.proofs.lateness.lateness_at.Goals.{After-from-then-from-e}
 use Rattle.timetable.proofs.lateness.lateness_at.Goals.{then-from-e, else-from-e}
 
 pub loop-a-init : goal.loop-a-init
 loop-a-init g c = top_none _ _
 
 -- the tail of an activity into the event comes before it
-early : (g : given.Over) (c : goal.After-from-then-from-e g) → c.from-then-from-e.result < c.args.e
+early : (g : given.Over) (c : After-from-then-from-e g) → c.from-then-from-e.result < c.args.e
 early g c =
     let o = ordered (g.R.Carry.hands c.args.rule.now) c.args.day (g.met.R.Carry.lawful c.args.rule.now) c.requires.ready.0 (g.C.Choosing.choice c.args.choosing.now) c.loop-a.a c.loop-a-test.true in
     omega (arith, o.0, c.from.ensures, c.from-then-from-e.ensures, c.if-from-e.true)
 
-pub offset-bounds-late-from : goal.offset-bounds-late-from
-offset-bounds-late-from g c = let t = early g c in let h = c.requires.within in search rules
+pub offset_bounds-late-from : goal.offset_bounds-late-from
+offset_bounds-late-from g c = let t = early g c in let h = c.requires.within in search rules
 
 pub bounds-late-from : goal.bounds-late-from
 bounds-late-from g c =

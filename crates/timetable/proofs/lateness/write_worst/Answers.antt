@@ -3,4 +3,4 @@ use Rattle.timetable.proofs.lateness.write_worst.Goals as goal
 
 pub returns : goal.returns
 unfolding worst
-returns g c = record { cells = c.write-least.ensures.cells; kept = c.write-least.ensures.kept }
+returns g c = record { cells = c.write_least.ensures.cells; kept = c.write_least.ensures.kept }

@@ -7,15 +7,16 @@ use Rattle.timetable.proofs.Stances.{off, live_so, margin_short}
 use Rattle.timetable.proofs.Loops.{ordered, worst_short}
 use Rattle.timetable.proofs.live.is_live.Given as given
 use Rattle.timetable.proofs.live.is_live.Goals as goal
+use Rattle.timetable.proofs.live.is_live.Goals.{After-from}
 
 -- the tail is an event of the sheet
-within : (g : given.Over) (c : goal.After-from g) → c.from.result < length c.args.day.events.now
+within : (g : given.Over) (c : After-from g) → c.from.result < length c.args.day.events.now
 within g c =
     let o = ordered (g.R.Carry.hands c.args.rule.now) c.args.day (g.met.R.Carry.lawful c.args.rule.now) c.requires.ready.0 (λ a. true) c.args.a c.requires.within in
     omega (arith, o, c.from.ensures)
 
-pub offset-bounds-late-from : goal.offset-bounds-late-from
-offset-bounds-late-from g c = let w = within g c in let r = c.requires.ready.1.room in search rules
+pub offset_bounds-late-from : goal.offset_bounds-late-from
+offset_bounds-late-from g c = let w = within g c in let r = c.requires.ready.1.room in search rules
 
 pub bounds-late-from : goal.bounds-late-from
 bounds-late-from g c =

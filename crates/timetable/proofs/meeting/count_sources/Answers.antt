@@ -3,7 +3,7 @@ use Rattle.model.specs.Finite.{count}
 use Rattle.model.specs.Meeting.{into}
 use Rattle.timetable.specs.Days.{yard_of}
 use Rattle.timetable.proofs.Sources.{count_none, count_more, count_skip, sources_noted, sources_quiet}
-use Rattle.timetable.proofs.meeting.count_sources.Goals.{then-comes-into, else-comes-into}
+use Rattle.timetable.proofs.meeting.count_sources.Goals.{then-comes_into, else-comes_into}
 use Rattle.timetable.proofs.meeting.count_sources.Goals as goal
 
 pub loop-a-init : goal.loop-a-init
@@ -13,9 +13,9 @@ pub loop-a-preserved : goal.loop-a-preserved
 loop-a-preserved g c =
     let t = into (yard_of (g.R.Carry.hands c.args.rule.now) c.args.day) c.args.e in
     let i = c.loop-a.invariant in
-    elim c.if-comes-into.branch [
-      | then-comes-into w ↦ (w.count_is ∙ count_more c.loop-a.count c.loop-a.a t (sym c.comes-into.ensures ∙ w.if-comes-into.true) i.0, omega (arith, w.count_is, i.1))
-      | else-comes-into w ↦ (w.count_is ∙ count_skip c.loop-a.count c.loop-a.a t (sym c.comes-into.ensures ∙ w.if-comes-into.false) i.0, omega (arith, w.count_is, i.1))
+    elim c.if-comes_into.branch [
+      | then-comes_into w ↦ (w.count-is ∙ count_more c.loop-a.count c.loop-a.a t (sym c.comes_into.ensures ∙ w.if-comes_into.true) i.0, omega (arith, w.count-is, i.1))
+      | else-comes_into w ↦ (w.count-is ∙ count_skip c.loop-a.count c.loop-a.a t (sym c.comes_into.ensures ∙ w.if-comes_into.false) i.0, omega (arith, w.count-is, i.1))
     ]
 
 pub returns-then-day-e-gt0 : goal.returns-then-day-e-gt0

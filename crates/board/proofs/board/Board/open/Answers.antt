@@ -8,8 +8,8 @@ use Rattle.board.specs.Ledger.{Ledger}
 use Rattle.board.proofs.Cells.{all_alike}
 use Rattle.board.proofs.board.Board.open.Goals as goal
 
-pub invariant-of-result : goal.invariant-of-result
-invariant-of-result c = ((λ k. omega (arith, all_alike {X = ℕ} 512 0 k)), (refl, tt))
+pub invariant_of-result : goal.invariant_of-result
+invariant_of-result c = record { timely = λ k. omega (arith, all_alike {X = ℕ} 512 0 k); resting = refl }
 
 pub returns : goal.returns
 returns c =

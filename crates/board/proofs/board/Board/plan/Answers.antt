@@ -12,7 +12,7 @@ plan-requires g c =
     let y = c.day.ensures.yard (g.R.Carry.hands c.args.rule.now) in
     let e = ap (λ (x : Yard). length x.sheet.events) y in
     let a = ap (λ (x : Yard). length x.sheet.activities) y in
-    let r = roomy (tables_of c.args.self.now.sheet) (length c.args.worst.now) (length c.args.cells.now) (length c.args.late.now) (length c.args.gone.now) (sym c.has-room.ensures ∙ c.if-not-has-room.false) in
+    let r = roomy (tables_of c.args.self.now.sheet) (length c.args.worst.now) (length c.args.cells.now) (length c.args.late.now) (length c.args.gone.now) (sym c.has_room.ensures ∙ c.if-not-has_room.false) in
     record {
       ready = c.day.ensures.ready;
       work = (omega (arith, e, r.worst), omega (arith, e, r.cells));
@@ -24,7 +24,7 @@ returns-in-Ok g c =
     let y = c.day.ensures.yard (g.R.Carry.hands c.args.rule.now) in
     let e = ap (λ (x : Yard). length x.sheet.events) y in
     let a = ap (λ (x : Yard). length x.sheet.activities) y in
-    let room = sym c.has-room.ensures ∙ c.if-not-has-room.false in
+    let room = sym c.has_room.ensures ∙ c.if-not-has_room.false in
     let p = c.in-Ok.ensures in
     record {
       refuses = refusal_so _ _ _ None room y p.refuses;
@@ -40,13 +40,13 @@ returns-in-Err g c =
     let y = c.day.ensures.yard (g.R.Carry.hands c.args.rule.now) in
     let e = ap (λ (x : Yard). length x.sheet.events) y in
     let a = ap (λ (x : Yard). length x.sheet.activities) y in
-    let room = sym c.has-room.ensures ∙ c.if-not-has-room.false in
+    let room = sym c.has_room.ensures ∙ c.if-not-has_room.false in
     let p = c.in-Err.ensures in
     record {
-      refuses = c.refusal-of.ensures ∙ refusal_so _ _ _ (Some c.in-Err.hindrance) room y p.refuses;
+      refuses = c.refusal_of.ensures ∙ refusal_so _ _ _ (Some c.in-Err.hindrance) room y p.refuses;
       planned = tt;
       untouched = p.untouched;
-      work = λ s. absurd (never_short c.in-Err.hindrance c.refusal-of.result c.refusal-of.ensures s);
+      work = λ s. absurd (never_short c.in-Err.hindrance c.refusal_of.result c.refusal_of.ensures s);
       late = λ k h. p.late k (omega (arith, e, h));
       gone = λ k h. p.gone k (omega (arith, a, h));
     }

@@ -5,5 +5,5 @@ use Rattle.carry.proofs.share.ShareMeasured.remains.Goals as goal
 
 pub returns : goal.returns
 returns c =
-    let percent = c.kept-percent-percent.ensures in
-    part-remains c.args.margin c.args.allowance c.min.result (omega arith) (rw percent at c.min.ensures)
+    let percent = c.kept_percent-percent.ensures in
+    part_remains c.args.margin c.args.allowance c.min.result (omega arith) (rw percent at c.min.ensures)

@@ -5,4 +5,4 @@ use Rattle.listing_read.proofs.draft.Draft.to_bytes.Goals as goal
 pub returns : goal.returns
 returns c =
     let d = c.args.self.now in
-    four_in_a_row (part_bytes d.terms) (part_bytes d.events) (part_bytes d.activities) (part_bytes d.lots) _ _ _ _ _ c.new-bytes.ensures.items c.in-ok-add-to.ensures c.in-ok-add-to-2.ensures c.in-ok-add-to-3.ensures c.in-ok-add-to-4.ensures
+    four_in_a_row (part_bytes d.terms) (part_bytes d.events) (part_bytes d.activities) (part_bytes d.lots) _ _ _ _ _ c.new-bytes.ensures.items c.in_ok-add_to.ensures c.in_ok-add_to-2.ensures c.in_ok-add_to-3.ensures c.in_ok-add_to-4.ensures

@@ -7,5 +7,5 @@ use Rattle.listing_read.proofs.draft.Section.add_to.Goals as goal
 pub returns : goal.returns
 returns c =
     let s = c.args.self.now in
-    then-more (vec_items c.args.bytes.now) (number_bytes s.count) (numbers_bytes (numbers_of s)) _ _ c.in-ok-add-numbers.ensures
-    (c.in-ok-add-numbers-2.ensures ∙ ap (λ (l : List ℕ). vec_items c.add-numbers.new.bytes ++ numbers_bytes l) c.as-slice.ensures.value)
+    then_more (vec_items c.args.bytes.now) (number_bytes s.count) (numbers_bytes (numbers_of s)) _ _ c.in_ok-add_numbers.ensures
+    (c.in_ok-add_numbers-2.ensures ∙ ap (λ (l : List ℕ). vec_items c.add_numbers.new.bytes ++ numbers_bytes l) c.as_slice.ensures.value)

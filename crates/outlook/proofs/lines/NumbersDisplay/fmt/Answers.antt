@@ -7,7 +7,7 @@ use Rattle.outlook.proofs.lines.NumbersDisplay.fmt.Goals as goal
 pub loop-number-preserved : goal.loop-number-preserved
 loop-number-preserved g c = λ plain.
     let before = c.loop-number.invariant plain in
-    let now = c.in-ok-write.ensures.shows before.plain refl in
+    let now = c.in_ok-write.ensures.writes before.plain refl in
     has_written_of_eq g.W.Write.write_str_gives _ _ _ _ (numbers_next c.args.self.now.0.now c.loop-number.number-index c.loop-number-test.true) (has_written_append g.W.Write.write_str_gives _ _ _ _ _ before now)
 
 pub returns-clause-writes : goal.returns-clause-writes
