@@ -1,7 +1,7 @@
 #!/usr/bin/env python3
 """Tries `dock show` and `dock pack` on made-up sheets and listings against an independent reader, `dock carry` and `dock remains` against the rules' formulas, and `dock worst` on made-up delays against an independent reckoning.
 
-usage: tests/try_dock.py [HOW_MANY] [SEED]     (default: 500 sheets, made from the number 1; DOCK names the program, else target/bin/dock)
+usage: tests/try_dock.py [HOW_MANY] [SEED]     (default: 500 sheets, made from the number 1; DOCK names the program, else crates/dock/out/dock)
 
 Each made-up sheet keeps every rule; then it is damaged, cut, made too long and so on. Every answer of the program has
 to be the reference's, byte by byte: the listing, or the refusal's number, section, record and byte place, and the status.
@@ -20,7 +20,7 @@ import tempfile
 import reference as ref
 
 HERE = os.path.dirname(os.path.abspath(__file__))
-DOCK = os.path.abspath(os.environ.get("DOCK", os.path.join(HERE, "..", "target", "bin", "dock")))
+DOCK = os.path.abspath(os.environ.get("DOCK", os.path.join(HERE, "..", "crates", "dock", "out", "dock")))
 
 
 class Trial:
