@@ -1,9 +1,9 @@
 -- What the lots pay together, as the model has it.
-use Rattle.std.proofs.Common.{◌≡◌, ℕ, ◌<◌, ◌≤◌, Bool, ◌&&◌, eqb, length, refl, ap, ◌∙◌, arith}
+use Rattle.std.proofs.Common.{◌≡◌, ℕ, ◌≤◌, Bool, ◌&&◌, eqb, length, refl, ap, ◌∙◌, arith}
 use Rattle.sheet.specs.Rules.{lot_at, stretch}
 use Rattle.tariff.specs.Tolls.{cap}
 use Rattle.tariff.specs.Prices.{Prices, LawfulPrices}
-use Rattle.sums.specs.Totals.{Each, lots_total, lots_weight, paid_at, sheet_bulk}
+use Rattle.sums.specs.Totals.{Each, lots_total, lots_weight, paid_at}
 use Rattle.sums.proofs.Weights.{light_sheet}
 use Rattle.model.specs.Lateness.{worst}
 use Rattle.model.specs.Lots.{lot_count, path, finish, unstruck, over}

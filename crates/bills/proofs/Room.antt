@@ -1,5 +1,5 @@
 -- Room for every sum that a bill forms: no lot counts twice in it.
-use Rattle.std.proofs.Common.{◌≡◌, ℕ, ◌+◌, ◌<◌, ◌≤◌, Bool, true, false, cond, ◌&&◌, eqb, List, length, get_or, sym, refl, ap, ◌∙◌, add-one, arith}
+use Rattle.std.proofs.Common.{◌≡◌, ℕ, ◌+◌, ◌<◌, ◌≤◌, Bool, true, false, cond, ◌&&◌, eqb, List, length, get_or, sym, ap, ◌∙◌, add-one, arith}
 use Rattle.carry.specs.Laws.{LawfulRule}
 use Rattle.tariff.specs.Prices.{Prices, LawfulPrices}
 use Rattle.sums.specs.Totals.{lots_weight}
@@ -8,7 +8,7 @@ use Rattle.tariff.specs.Tolls.{cap}
 use Rattle.model.specs.Yard.{activity_count, tail, head}
 use Rattle.model.specs.Meeting.{live}
 use Rattle.model.specs.Lots.{lot_count}
-use Rattle.model.specs.Tolls.{fares_of, late_lots, miss_bill}
+use Rattle.model.specs.Tolls.{fares_of, late_lots}
 use Rattle.model.specs.Laws.{Clear, event_bill}
 use Rattle.model.proofs.Rooms.{loop, acts_loop, BillRoomy}
 use Rattle.model.proofs.Bulks.{loop_is, bill_roomy}

@@ -4,7 +4,7 @@ use Rattle.std.proofs.lemmas.Bool.{both_ways}
 use Rattle.model.specs.declared.mark.Mark.{Mark}
 use Rattle.model.specs.declared.mark.Mark.TheVariants.{Unmarked, Held, Struck}
 use Rattle.board.specs.declared.refusal.Refusal.{Refusal}
-use Rattle.board.specs.declared.refusal.Refusal.TheVariants.{NoSuch, NoTransfer, Marked}
+use Rattle.board.specs.declared.refusal.Refusal.TheVariants.{NoSuch, NoTransfer}
 use Rattle.board.specs.Ledger.{Ledger, if_unmarked, if_free, has_activity, transfers}
 
 -- what a free transfer may be told is refused alike

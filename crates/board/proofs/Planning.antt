@@ -1,12 +1,11 @@
 -- What plan and reserve refuse, and what the day of a board says of the board.
-use Rattle.std.proofs.Common.{◌≡◌, ℕ, ◌<◌, ◌≤◌, Bool, true, cond, ◌&&◌, leb, ◌↔◌, List, length, get_or, Some, None, Option, sym, refl, ap, ◌∙◌, subst, arith}
+use Rattle.std.proofs.Common.{◌≡◌, ℕ, ◌≤◌, Bool, true, List, length, Some, None, Option, sym, ap, ◌∙◌, subst, arith}
 use Rattle.std.proofs.lemmas.Bool.{and_parts, leb-true, cond-true}
 use Rattle.sheet.specs.Rules.{Tables, well_formed}
 use Rattle.carry.specs.Laws.{LawfulRule}
 use Rattle.model.specs.declared.mark.Mark.{Mark}
-use Rattle.model.specs.Yard.{Yard, event_count, noted}
-use Rattle.model.specs.Reserves.{reserve}
-use Rattle.model.specs.Laws.{yard, Tolerated, Reserved}
+use Rattle.model.specs.Yard.{Yard, noted}
+use Rattle.model.specs.Laws.{yard}
 use Rattle.model.proofs.Stands.{within_reserves, reserve_alone}
 use Rattle.planner.specs.declared.hindrance.Hindrance.{Hindrance}
 use Rattle.planner.specs.declared.hindrance.Hindrance.TheVariants as hindrance

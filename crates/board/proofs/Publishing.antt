@@ -1,5 +1,5 @@
 -- A plan under deduct and parcel-minutes, in the words of the published model.
-use Rattle.std.proofs.Common.{◌≡◌, ℕ, List, IfOk, Ok, Err, Result, ◌∙◌}
+use Rattle.std.proofs.Common.{ℕ, List, IfOk, Ok, Err, Result, ◌∙◌}
 use Rattle.carry.specs.Handed.{deducted}
 use Rattle.tariff.specs.Minutes.{by_minutes}
 use Rattle.model.proofs.Stands.{lawful_by_deduct, minutes_toll}

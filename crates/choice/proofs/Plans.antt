@@ -5,7 +5,7 @@ use Rattle.tariff.specs.Prices.{Prices}
 use Rattle.model.specs.declared.mark.Mark.{Mark}
 use Rattle.model.specs.declared.mark.Mark.TheVariants.{Unmarked, Held, Struck}
 use Rattle.model.specs.Yard.{Yard, event_count, activity_count, tail, head, transfer, struck, unmarked, is_struck, is_unmarked}
-use Rattle.model.specs.Lateness.{Choice, binds, Lawful, least}
+use Rattle.model.specs.Lateness.{Choice, binds, least}
 use Rattle.model.specs.Meeting.{live}
 use Rattle.model.specs.Tolls.{fares_of, Planned}
 use Rattle.model.specs.Laws.{ByBills, event_bill}

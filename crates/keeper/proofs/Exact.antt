@@ -1,6 +1,6 @@
 -- A plan is refused exactly where something stands in its way.
-use Rattle.std.proofs.Common.{◌≡◌, ℕ, ◌<◌, ◌≤◌, Bool, true, false, cond, ◌&&◌, ltb, ◌⊎◌, ◌↔◌, is_some, is_err, IfOk, Some, None, Ok, Err, Option, Result, sym, refl, ap, ◌∙◌, subst, inl, inr, arith}
-use Rattle.std.proofs.lemmas.Bool.{cases_lt, cond-true, cond-false, lt-ltb, le-ltb, both_ways}
+use Rattle.std.proofs.Common.{◌≡◌, ℕ, ◌<◌, ◌≤◌, Bool, true, false, ltb, ◌⊎◌, ◌↔◌, is_some, is_err, IfOk, Some, None, Ok, Err, Option, Result, sym, refl, ap, ◌∙◌, inl, inr}
+use Rattle.std.proofs.lemmas.Bool.{cases_lt, cond-true, cond-false, le-ltb, both_ways}
 use Rattle.std.specs.Result.{result_err}
 use Rattle.model.specs.Yard.{Yard, event_count}
 use Rattle.model.specs.Finite.{first}
@@ -12,7 +12,7 @@ use Rattle.model.proofs.Tangles.{tangled_decides}
 use Rattle.timetable.specs.Found.{found_first}
 use Rattle.planner.specs.declared.hindrance.Hindrance.{Hindrance}
 use Rattle.planner.specs.declared.hindrance.Hindrance.TheVariants as hindrance
-use Rattle.planner.specs.Plans.{or_tangle, or_else, hindered}
+use Rattle.planner.specs.Plans.{or_else, hindered}
 use Rattle.planner.proofs.Clears.{clear_of}
 use Rattle.board.specs.declared.refusal.Refusal.{Refusal}
 use Rattle.board.specs.declared.refusal.Refusal.TheVariants.{ShortTable}

@@ -1,5 +1,5 @@
 -- Lists of calls, one call longer.
-use Rattle.std.proofs.Common.{◌≡◌, List, [], ◌∷◌, ◌++◌, sym, refl, ap, ◌∙◌, append_assoc, append-nil}
+use Rattle.std.proofs.Common.{◌≡◌, List, [], ◌∷◌, ◌++◌, sym, refl, append_assoc, append-nil}
 use Rattle.board.specs.Ledger.{Ledger, Call, step, steps}
 
 pub steps_more : (calls : List Call) (l : Ledger) (c : Call) → steps l (calls ++ (c ∷ [])) ≡ step (steps l calls) c

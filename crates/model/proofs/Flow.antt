@@ -1,9 +1,7 @@
 -- In a forest, what each reached event costs comes to what the roots' bills say. No toll is cancelled.
 use Rattle.std.proofs.Common.{◌≡◌, ℕ, zero, suc, ◌<◌, ◌≤◌, Bool, cond, ◌&&◌, eqb, ltb, leb, sym, refl, ap, ◌∙◌, ap₂, arith}
 use Rattle.std.proofs.lemmas.Bool.Decides.{nat_tests}
-use Rattle.model.specs.Meeting.{sources}
-use Rattle.model.specs.Tolls.{bill, given}
-use Rattle.model.specs.Yard.{head, tail}
+use Rattle.model.specs.Tolls.{given}
 use Rattle.sums.specs.Totals.{total}
 use Rattle.tariff.specs.Tolls.{LawfulTolls, Tolls}
 use Rattle.model.proofs.Sums.{right, cross, sum_same, sum_none, sum_plus, given_sum, given_plus, sum_at}

@@ -5,7 +5,7 @@ use Rattle.std.proofs.lemmas.Bool.Decides.{nat_tests, Decides-below_or}
 use Rattle.model.proofs.Ground.{Chain, Sound, keen}
 use Rattle.model.specs.Finite.{some, turns}
 use Rattle.model.specs.Lateness.{all_wait, binds, worst}
-use Rattle.model.specs.Lots.{ends, gone}
+use Rattle.model.specs.Lots.{ends}
 use Rattle.model.specs.Meeting.{Apart, live}
 use Rattle.model.specs.Tolls.{given}
 use Rattle.model.specs.Yard.{Yard, activity_count, handed, head, struck, tail, unmarked}

@@ -2,7 +2,6 @@
 use Rattle.std.proofs.Common.{◌≡◌, ℕ, suc, ◌-◌, Bool, true, false, cond, not, ltb, ◌⊎◌, sym, ap, ◌∙◌, inl, inr, arith}
 use Rattle.std.proofs.lemmas.Bool.{cases_Bool, lt-ltb, ltb-true}
 use Rattle.model.proofs.Ground.{Orderly, Sound, Le, self}
-use Rattle.model.specs.Finite.{low}
 use Rattle.model.specs.Lateness.{Choice, Lawful, least}
 use Rattle.model.specs.Lots.{lot_count, whole}
 use Rattle.model.specs.Meeting.{Apart}

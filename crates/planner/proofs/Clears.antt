@@ -5,7 +5,7 @@ use Rattle.carry.specs.Laws.{LawfulRule}
 use Rattle.tariff.specs.Prices.{Prices, LawfulPrices}
 use Rattle.model.specs.Yard.{Yard, event_count, activity_count, tail, head, handed}
 use Rattle.model.specs.Finite.{first}
-use Rattle.model.specs.Lateness.{binds, Least, least}
+use Rattle.model.specs.Lateness.{Least, least}
 use Rattle.model.specs.Meeting.{meets}
 use Rattle.model.specs.Lots.{lot_count}
 use Rattle.model.specs.Tangles.{tangled}
@@ -18,7 +18,7 @@ use Rattle.model.proofs.Tangles.{tangled_decides}
 use Rattle.timetable.specs.declared.day.Day.{Day}
 use Rattle.timetable.specs.Days.{Ready, sheet_on, delay_on, mark_on, yard_of}
 use Rattle.timetable.specs.Found.{found_first}
-use Rattle.timetable.specs.Parts.{lots_on, waits_by}
+use Rattle.timetable.specs.Parts.{waits_by}
 use Rattle.timetable.proofs.Loops.{least_short, reported_on}
 use Rattle.owed.specs.Owed.{by_bills}
 use Rattle.tolls.specs.Written.{Written, minutes_in}

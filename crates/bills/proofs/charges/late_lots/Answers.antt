@@ -1,4 +1,4 @@
-use Rattle.std.proofs.Common.{◌∙◌, rules}
+use Rattle.std.proofs.Common.{◌∙◌}
 use Rattle.bills.proofs.Dues.{each_lot, lots_light, late_all}
 use Rattle.bills.proofs.charges.late_lots.Goals as goal
 

@@ -1,4 +1,4 @@
-use Rattle.std.proofs.Common.{◌≡◌, ℕ, ◌<◌, ◌≤◌, length, sym, ap, ◌∙◌, arith, rules}
+use Rattle.std.proofs.Common.{sym, ◌∙◌, arith}
 use Rattle.timetable.proofs.Loops.{worst_short}
 use Rattle.timetable.proofs.Stances.{leads}
 use Rattle.bills.proofs.Room.{due_so, bill_begun, bill_more, bill_skip, add_room, bill_done}

@@ -1,4 +1,3 @@
-use Rattle.std.proofs.Common.{rules}
 use Rattle.bills.proofs.Room.{leaves, stays}
 use Rattle.bills.proofs.event_bill.goes_on.Goals as goal
 

@@ -1,4 +1,4 @@
-use Rattle.std.proofs.Common.{◌≡◌, length, sym, ap, ◌∙◌, arith}
+use Rattle.std.proofs.Common.{sym, ap, ◌∙◌, arith}
 use Rattle.model.specs.Yard.{activity_count}
 use Rattle.model.specs.Finite.{count}
 use Rattle.timetable.specs.Days.{yard_of}

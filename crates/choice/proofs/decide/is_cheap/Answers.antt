@@ -1,6 +1,4 @@
-use Rattle.std.proofs.Common.{◌≡◌, ◌<◌, length, sym, ap, ◌∙◌, arith}
-use Rattle.model.specs.Laws.{event_bill}
-use Rattle.timetable.specs.Days.{yard_of}
+use Rattle.std.proofs.Common.{◌∙◌, arith}
 use Rattle.timetable.proofs.Stances.{leads}
 use Rattle.choice.proofs.Deciding.{cheap_so}
 use Rattle.choice.proofs.decide.is_cheap.Goals as goal

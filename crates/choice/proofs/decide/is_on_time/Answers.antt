@@ -1,4 +1,4 @@
-use Rattle.std.proofs.Common.{◌≡◌, ℕ, ◌<◌, eqb, length, get_or, ap, ◌∙◌, ⊎_elim, arith, rules}
+use Rattle.std.proofs.Common.{ℕ, ◌<◌, eqb, length, get_or, ap, ◌∙◌, ⊎_elim, arith, rules}
 use Rattle.model.specs.Yard.{tail}
 use Rattle.timetable.proofs.Stances.{decided, leads}
 use Rattle.choice.proofs.Deciding.{open_test, shut_test}

@@ -1,4 +1,4 @@
-use Rattle.std.proofs.Common.{◌≡◌, ℕ, ◌<◌, Bool, cond, length, get_or, ap, ◌∙◌, arith}
+use Rattle.std.proofs.Common.{◌<◌, Bool, cond, length, get_or, ap, ◌∙◌, arith}
 use Rattle.timetable.specs.Days.{yard_of}
 use Rattle.timetable.proofs.Cells.{one_more, past}
 use Rattle.choice.specs.Chosen.{on_time}

@@ -1,4 +1,4 @@
-use Rattle.std.proofs.Common.{◌≡◌, Bool, not, ◌&&◌, sym, ap, ◌∙◌, rules}
+use Rattle.std.proofs.Common.{◌≡◌, Bool, not, ◌&&◌, sym, ap, ◌∙◌}
 use Rattle.model.specs.Meeting.{live}
 use Rattle.timetable.specs.declared.day.Stance.{Stance}
 use Rattle.timetable.specs.Days.{yard_of}

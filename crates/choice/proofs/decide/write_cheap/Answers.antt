@@ -1,4 +1,4 @@
-use Rattle.std.proofs.Common.{◌≡◌, ◌<◌, length, ap, ◌∙◌, arith}
+use Rattle.std.proofs.Common.{◌<◌, length, ap, ◌∙◌, arith}
 use Rattle.timetable.proofs.Cells.{one_more, past}
 use Rattle.choice.specs.Chosen.{byte}
 use Rattle.choice.proofs.decide.write_cheap.Goals as goal

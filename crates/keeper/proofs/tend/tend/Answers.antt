@@ -1,8 +1,8 @@
-use Rattle.std.proofs.Common.{◌≡◌, ℕ, ◌<◌, ◌⊎◌, List, [], ◌∷◌, ◌++◌, length, sym, refl, ap, ◌∙◌, subst, inl, inr, arith, length-append}
+use Rattle.std.proofs.Common.{◌≡◌, ◌<◌, ◌⊎◌, [], ◌∷◌, ◌++◌, length, sym, refl, ap, ◌∙◌, subst, inl, inr, arith, length-append}
 use Rattle.board.specs.Calls.{for_events}
 use Rattle.sheet.specs.Sheets.{tables_of}
-use Rattle.board.specs.Ledger.{Ledger, Call, ledger_of, opened, step, steps}
-use Rattle.keeper.specs.Orders.{call_of, answered}
+use Rattle.board.specs.Ledger.{Ledger, Call, ledger_of, opened, step}
+use Rattle.keeper.specs.Orders.{call_of}
 use Rattle.keeper.proofs.Folds.{steps_none, steps_more, logged, logged_none}
 use Rattle.keeper.proofs.Whole.{room_same, whole_law}
 use Rattle.keeper.proofs.tend.tend.Goals.{else-loop-turn-test, then-loop-turn-test+in-None}

@@ -1,4 +1,4 @@
-use Rattle.std.proofs.Common.{◌≡◌, ℕ, List, ◌++◌, length}
+use Rattle.std.proofs.Common.{◌≡◌, List, ◌++◌, length}
 use Rattle.sheet.specs.Sheets.{tables_of}
 use Rattle.board.specs.Ledger.{Call, ledger_of, opened, steps}
 use Rattle.keeper.proofs.tend.tend.Given as goal

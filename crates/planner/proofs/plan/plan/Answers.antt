@@ -1,4 +1,4 @@
-use Rattle.std.proofs.Common.{◌≡◌, ◌≤◌, length, sym, ◌∙◌, arith}
+use Rattle.std.proofs.Common.{sym, ◌∙◌, arith}
 use Rattle.timetable.specs.Days.{yard_of}
 use Rattle.planner.proofs.Clears.{clear_of, written_so, plan_so}
 use Rattle.planner.proofs.plan.plan.Goals as goal

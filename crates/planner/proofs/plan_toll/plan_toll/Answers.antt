@@ -1,4 +1,4 @@
-use Rattle.std.proofs.Common.{◌≡◌, sym, ◌∙◌, arith}
+use Rattle.std.proofs.Common.{sym, ◌∙◌, arith}
 use Rattle.timetable.specs.Days.{yard_of}
 use Rattle.planner.proofs.Clears.{clear_of, toll_so}
 use Rattle.planner.proofs.plan_toll.plan_toll.Goals as goal

@@ -1,4 +1,4 @@
-use Rattle.std.proofs.Common.{◌≡◌, ℕ, ◌<◌, length, ap, ◌∙◌, arith, rules}
+use Rattle.std.proofs.Common.{ℕ, ap, ◌∙◌, arith}
 use Rattle.sheet.specs.Rules.{activity_at}
 use Rattle.model.specs.Lots.{end}
 use Rattle.timetable.specs.Days.{yard_of}

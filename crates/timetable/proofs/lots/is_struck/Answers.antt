@@ -1,4 +1,4 @@
-use Rattle.std.proofs.Common.{◌≡◌, sym, ap, ◌∙◌, ⊎_elim, rules}
+use Rattle.std.proofs.Common.{sym, ap, ◌∙◌, ⊎_elim}
 use Rattle.timetable.proofs.Stances.{off, struck_by}
 use Rattle.timetable.proofs.lots.is_struck.Goals as goal
 

@@ -1,4 +1,4 @@
-use Rattle.std.proofs.Common.{◌≡◌, ℕ, ◌<◌, length, sym, ap, ◌∙◌, arith, rules}
+use Rattle.std.proofs.Common.{sym, ap, ◌∙◌, arith}
 use Rattle.model.specs.Yard.{struck}
 use Rattle.timetable.specs.Days.{yard_of}
 use Rattle.timetable.proofs.Ways.{step_known, whole_begun, whole_on, whole_not, whole_done}

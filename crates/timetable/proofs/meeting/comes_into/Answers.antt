@@ -1,4 +1,4 @@
-use Rattle.std.proofs.Common.{◌≡◌, sym, ◌∙◌, rules}
+use Rattle.std.proofs.Common.{sym, ◌∙◌}
 use Rattle.timetable.proofs.Sources.{into_live}
 use Rattle.timetable.proofs.meeting.comes_into.Goals as goal
 

@@ -1,4 +1,4 @@
-use Rattle.std.proofs.Common.{◌≡◌, length, sym, ap, ◌∙◌, arith, rules}
+use Rattle.std.proofs.Common.{◌≡◌, length, sym, ap, ◌∙◌, arith}
 use Rattle.model.specs.Finite.{count}
 use Rattle.model.specs.Meeting.{into}
 use Rattle.timetable.specs.Days.{yard_of}

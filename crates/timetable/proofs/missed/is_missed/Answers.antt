@@ -1,4 +1,4 @@
-use Rattle.std.proofs.Common.{◌≡◌, ℕ, Bool, not, eqb, get_or, sym, ap, ◌∙◌, rules}
+use Rattle.std.proofs.Common.{not, get_or, sym, ap, ◌∙◌}
 use Rattle.std.proofs.lemmas.Bool.{eq-eqb, ne_eqb}
 use Rattle.timetable.specs.Parts.{gone_by}
 use Rattle.timetable.proofs.Strides.{some_on, some_found, some_none}

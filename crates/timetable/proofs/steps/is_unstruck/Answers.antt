@@ -1,4 +1,4 @@
-use Rattle.std.proofs.Common.{◌≡◌, ℕ, ◌<◌, not, sym, refl, ap, ◌∙◌, arith, rules}
+use Rattle.std.proofs.Common.{not, sym, refl, ap, ◌∙◌, arith}
 use Rattle.model.specs.Yard.{struck}
 use Rattle.timetable.specs.Days.{yard_of}
 use Rattle.timetable.proofs.Strides.{some_on, some_found, some_none}

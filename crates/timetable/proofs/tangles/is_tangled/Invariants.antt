@@ -1,6 +1,4 @@
-use Rattle.std.proofs.Common.{◌≡◌, ℕ, Bool, drop}
-use Rattle.model.specs.Meeting.{live}
-use Rattle.model.specs.Tangles.{hot, late_end, scan}
+use Rattle.std.proofs.Common.{drop}
 use Rattle.timetable.specs.Days.{yard_of}
 use Rattle.timetable.proofs.Ways.{Scanned}
 use Rattle.timetable.proofs.tangles.is_tangled.Given as goal

@@ -1,4 +1,4 @@
-use Rattle.std.proofs.Common.{◌≡◌, ◌-◌, refl, ◌∙◌, arith}
+use Rattle.std.proofs.Common.{refl, ◌∙◌, arith}
 use Rattle.bills.proofs.Down.{billed_past, same_length, billed_more, beyond_same}
 use Rattle.bills.proofs.column.Bills.fill.Goals as goal
 

@@ -1,4 +1,4 @@
-use Rattle.std.proofs.Common.{◌≡◌, is_ok, Err, sym, ap, ◌∙◌, rules}
+use Rattle.std.proofs.Common.{◌≡◌, is_ok, Err, sym, ap, ◌∙◌}
 use Rattle.std.proofs.lemmas.Bool.{cond-false}
 use Rattle.model.specs.declared.mark.Mark.TheVariants.{Held}
 use Rattle.board.specs.Ledger.{ledger_of, slip_for, hold_answer, with_mark}

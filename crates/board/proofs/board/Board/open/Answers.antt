@@ -1,10 +1,9 @@
-use Rattle.std.proofs.Common.{◌≡◌, ℕ, ◌≤◌, get_or, replicate, sym, refl, ap, ◌∙◌, arith}
+use Rattle.std.proofs.Common.{◌≡◌, ℕ, get_or, replicate, refl, ap, ◌∙◌, arith}
 use mathlib.Core.Path.{fun_ext}
 use Rattle.model.specs.declared.mark.Mark.{Mark}
 use Rattle.sheet.specs.Sheets.{tables_of}
 use Rattle.timetable.specs.declared.day.MarkRecord.{MarkRecord}
 use Rattle.timetable.specs.Days.{no_mark}
-use Rattle.board.specs.Ledger.{Ledger}
 use Rattle.board.proofs.Cells.{all_alike}
 use Rattle.board.proofs.board.Board.open.Goals as goal
 

@@ -1,9 +1,7 @@
-use Rattle.std.proofs.Common.{◌≡◌, ℕ, ◌≤◌, true, length, Some, None, sym, ap, ◌∙◌, subst, arith}
-use Rattle.std.specs.Result.{result_err}
+use Rattle.std.proofs.Common.{length, Some, None, sym, ap, ◌∙◌, subst, arith}
 use Rattle.sheet.specs.Sheets.{tables_of}
 use Rattle.model.specs.Yard.{Yard}
 use Rattle.planner.specs.Plans.{PlanIn}
-use Rattle.board.specs.Calls.{plan_room}
 use Rattle.board.proofs.Planning.{roomy, refusal_so, never_short}
 use Rattle.board.proofs.board.Board.plan.Goals as goal
 

@@ -1,8 +1,6 @@
-use Rattle.std.proofs.Common.{◌≡◌, ℕ, ◌<◌, true, length, Ok, Err, sym, ap, ◌∙◌, rules}
+use Rattle.std.proofs.Common.{◌≡◌, ◌<◌, true, length, Ok, sym, ◌∙◌, rules}
 use Rattle.std.proofs.lemmas.Bool.{cond-true}
-use Rattle.model.specs.declared.mark.Mark.{Mark}
 use Rattle.model.specs.declared.mark.Mark.TheVariants.{Unmarked}
-use Rattle.timetable.specs.declared.day.MarkRecord.{MarkRecord}
 use Rattle.board.specs.Ledger.{ledger_of, holds, with_mark}
 use Rattle.board.proofs.Cells.{marked_ledger}
 use Rattle.board.proofs.board.Board.release.Goals as goal

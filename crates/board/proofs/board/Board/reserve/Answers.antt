@@ -1,6 +1,5 @@
-use Rattle.std.proofs.Common.{◌≡◌, ℕ, ◌≤◌, leb, length, Some, None, sym, ap, ◌∙◌, subst, arith}
+use Rattle.std.proofs.Common.{length, Some, None, sym, ap, subst, arith}
 use Rattle.std.proofs.lemmas.Bool.{cond-true, le-leb}
-use Rattle.sheet.specs.Sheets.{tables_of}
 use Rattle.model.specs.Yard.{Yard, event_count}
 use Rattle.board.specs.Calls.{ReserveIn}
 use Rattle.board.specs.Ledger.{ledger_of, yard_on}
