@@ -1,8 +1,9 @@
 -- What the desk answers.
 --
---   Shown     a text is the listing of the sheet whose bytes these are
---   Packed    bytes are those of a sheet
---   Blames    what the desk says of a sheet that is not read
+--   Shown             a text is the listing of the sheet whose bytes these are
+--   Packed            bytes are those of a sheet
+--   Blames            what the desk says of a sheet that is not read
+--   BlamesNoReport    what the desk says where no reports are given
 use Rattle.std.specs.Prelude.{◌≡◌, ℕ, true, List, Err, Result}
 use Rattle.sheet.specs.Rules.{Tables, well_formed}
 use Rattle.sheet.specs.Bytes.{bytes_of}
@@ -29,3 +30,9 @@ Blames answer (Refused f) = answer ≡ Err f
 Blames answer (Line text) = ⊥
 Blames answer (Unseen f) = ⊥
 Blames answer Memory = Unit {0}
+
+abbrev pub BlamesNoReport : DeskFault → Type 0
+BlamesNoReport (Refused f) = Unit {0}
+BlamesNoReport (Line text) = Unit {0}
+BlamesNoReport (Unseen f) = ⊥
+BlamesNoReport Memory = Unit {0}

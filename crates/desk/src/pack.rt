@@ -4,7 +4,7 @@ ghost use Rattle.sheet.specs.Bytes.{bytes_of};
 ghost use Rattle.sheet.specs.Sheets.{tables_of};
 ghost use Rattle.sheet_read.specs.Sheets.{room_in, reading_of};
 ghost use Rattle.desk.specs.declared.fault.DeskFault.TheVariants.{Memory};
-ghost use Rattle.desk.specs.Desk.{Packed, Blames};
+ghost use Rattle.desk.specs.Desk.{Packed, Blames, BlamesNoReport};
 
 use crate::fault::DeskFault;
 use crate::tables::sheet_in;
@@ -24,7 +24,8 @@ pub fn pack(
     lots: &mut [Lot],
     steps: &mut [u16],
 ) -> Result<Vec<u8>, DeskFault>
-    ensures { IfOk result (λ out. Packed out.items) }
+    ensures packed { IfOk result (λ out. Packed out.items) }
+    ensures blames { IfErr result BlamesNoReport }
 {
     let draft = draft_bytes(heap, text)?;
     let out = checked(heap, draft.as_slice(), events, activities, lots, steps)?;
@@ -32,7 +33,9 @@ pub fn pack(
 }
 
 /// The bytes that a listing's lines say, whether or not they are a sheet.
-fn draft_bytes(heap: Global, text: &[u8]) -> Result<Vec<u8>, DeskFault> {
+fn draft_bytes(heap: Global, text: &[u8]) -> Result<Vec<u8>, DeskFault>
+    ensures { IfErr result BlamesNoReport }
+{
     match read_listing(heap, text) {
         Ok(draft) => Ok(draft.to_bytes(heap)?),
         Err(fault) => Err(DeskFault::Line(format!(in heap; "{fault}")?)),

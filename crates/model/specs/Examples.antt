@@ -8,7 +8,7 @@
 --   YardSheetTold      the same of every choice by the bills, with both kinds of toll
 --   longer_sheet       the same with a last stand, over which lot 1 goes on
 --   LongerWorked       its toll, and how a delay at its end tangles lot 1
---   WorkedCases        both, and the worked cases of the rules
+--   WorkedCases        the last two, and the worked cases of the rules
 use Rattle.std.specs.Prelude.{◌≡◌, ℕ, zero, suc, ◌+◌, Bool, true, false, cond, List, [], ◌∷◌, ◌==◌}
 use Rattle.sheet.specs.declared.records.Side.TheVariants.{Arrival, Departure}
 use Rattle.sheet.specs.declared.records.Kind.TheVariants.{Drive, Stand, Transfer}
@@ -85,7 +85,7 @@ pub record HypothesesMet : Type 0 where
 
 -- ---- what a yard comes to
 
--- the law `A-choice` says that there is a choice by the bills
+-- the law `AChoice` says that there is a choice by the bills
 pub record ComesTo {A : Type 0} (p : Prices A) (g : Yard) (waits : Bool) (lateness : List ℕ) (toll : A) : Type 0 where
   pub decided : (z : Choice) → ByBills p g z → binds g z 1 ≡ waits
   pub late : (z : Choice) → ByBills p g z → listed (event_count g) (least g z) ≡ lateness

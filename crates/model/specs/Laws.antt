@@ -1,4 +1,4 @@
--- The laws of the model, for every well_formed sheet, every carry rule and tariff that keep their laws, all delays and all marks.
+-- The laws of the model, for every well-formed sheet, every carry rule and tariff that keep their laws, all delays and all marks.
 --
 --   yard              the yard of a sheet, a rule, delays and marks
 --   Reported          every noted delay is at most the period

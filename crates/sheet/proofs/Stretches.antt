@@ -1,4 +1,4 @@
--- What a well_formed sheet's rules say of one record at a time.
+-- What a well-formed sheet's rules say of one record at a time.
 use Rattle.std.proofs.Common.{◌≡◌, ℕ, zero, suc, ◌+◌, ◌<◌, ◌≤◌, true, List, [], ◌∷◌, length, get_or, take, drop, None, arith, length-drop}
 use Rattle.std.proofs.lemmas.Bool.{and_parts, eqb-true, leb-true}
 use Rattle.sheet.specs.declared.records.Activity.{Activity}

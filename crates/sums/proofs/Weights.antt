@@ -1,4 +1,4 @@
--- A well_formed sheet's lots: how few they are, how few parcels each has, and so how little they weigh.
+-- A well-formed sheet's lots: how few they are, how few parcels each has, and so how little they weigh.
 use Rattle.std.proofs.Common.{◌≡◌, ℕ, zero, suc, ◌+◌, ◌*◌, ◌<◌, ◌≤◌, true, List, [], ◌∷◌, length, drop, mul-le-mul_right, arith}
 use Rattle.std.proofs.lemmas.Bool.Decides.{nat_tests}
 use Rattle.sheet.specs.declared.records.Activity.{Activity}

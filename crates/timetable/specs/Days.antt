@@ -5,7 +5,7 @@
 --   yard_of      the yard of a day under a rule
 --   stance_at    how an activity stands: bound, open to the choice, or gone
 --   WorstIn      a table that holds the worst timetable
---   Ready        what every day keeps: a well_formed sheet, a delay of at most the period for each event, a mark for each activity
+--   Ready        what every day keeps: a well-formed sheet, a delay of at most the period for each event, a mark for each activity
 use Rattle.std.specs.Prelude.{◌≡◌, ℕ, ◌<◌, ◌≤◌, Bool, true, false, List, length, ◌==◌, slice_index, slice_index_or}
 use Rattle.sheet.specs.declared.records.Kind.{Kind}
 use Rattle.sheet.specs.declared.records.Kind.TheVariants.{Drive, Stand, Transfer}

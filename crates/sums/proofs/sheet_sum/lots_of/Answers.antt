@@ -1,4 +1,4 @@
--- A well_formed sheet's lots are light.
+-- A well-formed sheet's lots are light.
 use Rattle.std.proofs.Common.{refl}
 use Rattle.sheet.specs.Sheets.{tables_of}
 use Rattle.sums.proofs.Weights.{light_sheet}
