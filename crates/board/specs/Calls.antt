@@ -5,7 +5,7 @@
 --   trial_refusal    why a transfer cannot be struck, else what stands in the way of a plan with it struck
 --   ReserveIn        a table that holds every event's reserve
 --   ReserveLaw       what such a table says: every event is within its tolerance, all unstruck transfers waiting, exactly when every noted
---                  delay is within what is written for its event; and a delay at one event alone is so exactly when it is within that
+--                    delay is within what is written for its event; and a delay at one event alone is so exactly when it is within that
 use Rattle.std.specs.Prelude.{◌≡◌, ℕ, ◌<◌, ◌≤◌, Bool, cond, ◌&&◌, ◌↔◌, List, length, is_ok, Some, None, Option, nat_le, slice_index}
 use Rattle.std.specs.Result.{result_err}
 use Rattle.sheet.specs.Rules.{Tables}

@@ -1,2 +1,3 @@
 pub mod Orders
+pub mod Asking
 pub mod Law

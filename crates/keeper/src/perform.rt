@@ -44,6 +44,9 @@ pub fn perform<R: Carry, T: Tariff, Q: Reserving<R>>(
         Order::Clear(a) => Answer::Cleared(a, board.clear(a)),
         Order::Trial(a) => Answer::Tried(a, board.trial(rule, tariff, a, worst, cells)),
         Order::Plan => Answer::Planned(board.plan(rule, tariff, worst, cells, late, gone)),
-        Order::Reserve(ask) => Answer::Reserved(reserving.reserve(ask, rule, board, reserves)),
+        Order::Reserve(ask) => match reserving.reserve(Some(ask), rule, board, reserves) {
+            Some(answer) => Answer::Reserved(answer),
+            None => unreachable!(),
+        },
     }
 }

@@ -1,9 +1,7 @@
 //! Whether reserves can be asked for: under a measured rule they can, and under any other there is no leave to ask.
-ghost use Rattle.std.specs.Prelude.{◌≡◌, ℕ, ◌≤◌, Bool, true, false, length, is_some, IfErr, OnOk};
-ghost use Rattle.std.specs.Result.{result_err};
-ghost use Rattle.sheet.specs.Sheets.{tables_of};
+ghost use Rattle.std.specs.Prelude.{◌≡◌, Bool, true, false, is_some};
 ghost use Rattle.board.specs.Ledger.{ledger_of, yard_on};
-ghost use Rattle.board.specs.Calls.{reserve_refusal, ReserveIn, ReserveLaw};
+ghost use Rattle.keeper.specs.Asking.{ReservesAsked};
 
 use board::board::Board;
 use board::refusal::Refusal;
@@ -21,18 +19,16 @@ pub trait Reserving<R: Carry> {
     fn leave(&self) -> Option<Self::Ask>
         ensures { is_some result ≡ measures self.now };
 
-    /// Writes each event's reserve.
+    /// Writes each event's reserve, by the leave to ask for it; with no leave nothing is written, and there is no answer.
     fn reserve(
         &self,
-        ask: Self::Ask,
+        ask: Option<Self::Ask>,
         rule: &R,
         board: &Board,
         reserves: &mut [u16],
-    ) -> Result<(), Refusal>
-        ensures refuses { result_err result ≡ reserve_refusal (ledger_of board.now).sheet (length reserves.old) }
-        ensures cells { OnOk result (ReserveIn (yard_on (R.Carry.hands rule.now) (ledger_of board.now)) reserves.new) }
-        ensures law { OnOk result (ReserveLaw (yard_on (R.Carry.hands rule.now) (ledger_of board.now)) reserves.new) }
-        ensures untouched { IfErr result (λ why. reserves.new ≡ reserves.old) };
+    ) -> Option<Result<(), Refusal>>
+        ensures asked { is_some result ≡ is_some ask }
+        ensures reserves { ReservesAsked (yard_on (R.Carry.hands rule.now) (ledger_of board.now)) reserves.old reserves.new result };
 }
 
 /// The leave that nobody has.
@@ -54,12 +50,18 @@ impl<R: Carry> Reserving<R> for Unmeasured {
 
     fn reserve(
         &self,
-        ask: NoLeave,
-        _rule: &R,
-        _board: &Board,
-        _reserves: &mut [u16],
-    ) -> Result<(), Refusal> {
-        match ask {}
+        ask: Option<NoLeave>,
+        rule: &R,
+        board: &Board,
+        reserves: &mut [u16],
+    ) -> Option<Result<(), Refusal>>
+        ensures asked { is_some result ≡ is_some ask }
+        ensures reserves { ReservesAsked (yard_on (R.Carry.hands rule.now) (ledger_of board.now)) reserves.old reserves.new result }
+    {
+        match ask {
+            None => None,
+            Some(leave) => match leave {},
+        }
     }
 }
 
@@ -78,11 +80,15 @@ impl<R: Measured> Reserving<R> for ByRemains {
 
     fn reserve(
         &self,
-        _ask: (),
+        ask: Option<()>,
         rule: &R,
         board: &Board,
         reserves: &mut [u16],
-    ) -> Result<(), Refusal> {
-        board.reserve(rule, reserves)
+    ) -> Option<Result<(), Refusal>>
+        ensures asked { is_some result ≡ is_some ask }
+        ensures reserves { ReservesAsked (yard_on (R.Carry.hands rule.now) (ledger_of board.now)) reserves.old reserves.new result }
+    {
+        ask?;
+        Some(board.reserve(rule, reserves))
     }
 }

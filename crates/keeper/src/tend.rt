@@ -55,9 +55,8 @@ fn write_last<R: Carry, Q: Reserving<R>>(
 )
     ensures { Q.measures reserving.now ≡ true → for_events (ledger_of board.now).sheet (length reserves.old) ≡ true → ReserveLaw (yard_on (R.hands rule.now) (ledger_of board.now)) reserves.new }
 {
-    if let Some(ask) = reserving.leave() {
-        let _ = reserving.reserve(ask, rule, board, reserves);
-    }
+    let leave = reserving.leave();
+    let _ = reserving.reserve(leave, rule, board, reserves);
 }
 
 /// Opens a board on a sheet under a number and lets a keeper tend it, for so many calls at most; then asks for a plan and, under a measured

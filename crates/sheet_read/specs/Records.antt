@@ -3,7 +3,7 @@
 --   side_of, kind_of, class_of                            the sort that a number stands for, if any
 --   event_from, activity_from, head_from                  a record of its numbers, if it keeps its rule
 --   period_of, event_of, activity_of, head_of, step_of    what is read at the front of some bytes, with the bytes after it, or the
---                                 fault: first the numbers are read, then the rule is tested
+--                                                         fault: first the numbers are read, then the rule is tested
 use Rattle.std.specs.Prelude.{ℕ, zero, suc, Bool, cond, List, Some, None, Ok, Err, Option, Result}
 use Rattle.std.specs.Option.{ok_or}
 use Rattle.sheet.specs.declared.records.Side.{Side}

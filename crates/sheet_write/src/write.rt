@@ -1,6 +1,6 @@
 //! Writing a whole sheet into a buffer.
 ghost use Rattle.std.specs.Prelude.{◌≡◌, ℕ, ◌+◌, ◌≤◌, length, take, is_ok, IfOk, if◌then◌else◌};
-ghost use Rattle.std.specs.List.{flat_map, AllByRecursion as All};
+ghost use Rattle.std.specs.List.{flat_map, AllByRecursion};
 ghost use Rattle.sheet.specs.Bytes.{lot_bytes, bytes_of};
 ghost use Rattle.sheet.specs.Laid.{laid};
 ghost use Rattle.sheet.specs.Sheets.{tables_of};
@@ -43,7 +43,7 @@ fn put_lot(lot: Lot, steps: &[u16], out: &mut [u8], at: usize) -> usize
 
 /// Puts the lots, one after another.
 fn put_lots(lots: &[Lot], steps: &[u16], out: &mut [u8], at: usize) -> usize
-    requires { (All (Within steps.now) lots.now) × (at + length (flat_map (lot_bytes steps.now) lots.now) ≤ length out.old) }
+    requires { (AllByRecursion (Within steps.now) lots.now) × (at + length (flat_map (lot_bytes steps.now) lots.now) ≤ length out.old) }
     ensures answer { result ≡ at + length (flat_map (lot_bytes steps.now) lots.now) }
     ensures bytes { out.new ≡ laid at (flat_map (lot_bytes steps.now) lots.now) out.old }
 {
