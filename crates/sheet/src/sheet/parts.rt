@@ -37,6 +37,7 @@ impl<'a> Sheet<'a> {
         }
         let lot = self.lots[lot];
         let first = usize::from(lot.first);
-        Some(&self.steps[first..first + usize::from(lot.count)])
+        let steps = &self.steps[first..first + usize::from(lot.count)];
+        Some(steps)
     }
 }

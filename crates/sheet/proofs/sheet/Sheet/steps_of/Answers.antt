@@ -13,11 +13,11 @@ fits c =
     let w = within_steps s.activities.now 0 s.lots.now s.steps.now k.lots c.args.lot no_lot c.if-lot-self.false in
     omega (arith, w, c.from-first.ensures, c.from.ensures)
 
-pub overflow_add-result : goal.overflow_add-result
-overflow_add-result c = let f = fits c in search rules
+pub overflow_add-steps : goal.overflow_add-steps
+overflow_add-steps c = let f = fits c in search rules
 
 pub offset_bounds-self-first : goal.offset_bounds-self-first
 offset_bounds-self-first c = let f = fits c in search rules
 
-pub slice_bounds-result-end : goal.slice_bounds-result-end
-slice_bounds-result-end c = let f = fits c in search rules
+pub slice_bounds-steps-end : goal.slice_bounds-steps-end
+slice_bounds-steps-end c = let f = fits c in search rules
