@@ -3,9 +3,10 @@
 
 pub mod fault;
 pub mod minutes;
-mod number;
+pub mod number;
 pub mod pack;
 pub mod reports;
+pub mod room;
 pub mod rules;
 pub mod show;
 mod tables;

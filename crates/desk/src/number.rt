@@ -5,7 +5,7 @@ ghost use Rattle.listing_read.specs.Words.{number_of};
 use crate::minutes::{Argument, minutes};
 
 /// The number of a word, a decimal of at most 65,535.
-pub(crate) fn number(word: &str) -> Option<u16>
+pub fn number(word: &str) -> Option<u16>
     ensures { result ≡ number_of word.now }
 {
     match minutes(word, Argument::Lateness) {

@@ -28,6 +28,11 @@ pub enum Command {
         /// The reports, and the rule's name after `--rule`.
         words: Vec<String>,
     },
+    Keep {
+        sheet: String,
+        /// The options, each with its word, and the file of calls.
+        words: Vec<String>,
+    },
 }
 
 /// The command that the program's arguments say.
@@ -37,7 +42,7 @@ pub fn read(rt: &HostRuntime) -> Result<Command, DockFault> {
     let Some(name) = args.next() else {
         return Ok(Command::Help);
     };
-    if name.as_str() == "worst" {
+    if name.as_str() == "worst" || name.as_str() == "keep" {
         let Some(sheet) = args.next() else {
             return Err(DockFault::Arguments(name));
         };
@@ -45,7 +50,10 @@ pub fn read(rt: &HostRuntime) -> Result<Command, DockFault> {
         for word in args {
             words.push(word)?;
         }
-        return Ok(Command::Worst { sheet, words });
+        return Ok(match name.as_str() {
+            "worst" => Command::Worst { sheet, words },
+            _ => Command::Keep { sheet, words },
+        });
     }
     let (first, second, third, fourth) = (args.next(), args.next(), args.next(), args.next());
     match (name.as_str(), first, second, third, fourth) {

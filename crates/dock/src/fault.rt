@@ -14,6 +14,14 @@ pub enum DockFault {
     NoRule(String),
     /// No rule is named after this word.
     Unnamed(String),
+    NoTariff(String),
+    /// A word is no board's number.
+    NoNumber(String),
+    /// An option has no word after it.
+    Bare(String),
+    NoOption(String),
+    /// A second file of calls.
+    SecondFile(String),
     /// A word is no EVENT=MINUTES.
     NoReport(String),
     /// An argument is no decimal from 0 to 1,440.
@@ -71,6 +79,21 @@ pub fn tell(rt: &HostRuntime, fault: DockFault) {
         ),
         DockFault::Unnamed(word) => eprintln!(rt;
             "dock: no rule is named after '{word}'; the rules are deduct, gate and share"
+        ),
+        DockFault::NoTariff(name) => eprintln!(rt;
+            "dock: no such tariff: '{name}'; the tariffs are parcel-minutes and ranked"
+        ),
+        DockFault::NoNumber(word) => eprintln!(rt;
+            "dock: no board's number: '{word}'; it is a whole number from 0 to 65535, in decimal"
+        ),
+        DockFault::Bare(option) => eprintln!(rt;
+            "dock: '{option}' has no word after it; see dock --help"
+        ),
+        DockFault::NoOption(word) => eprintln!(rt;
+            "dock: no such option: '{word}'; see dock --help"
+        ),
+        DockFault::SecondFile(name) => eprintln!(rt;
+            "dock: a second file of calls: '{name}'; 'keep' takes one at most"
         ),
         DockFault::NoReport(word) => eprintln!(rt;
             "dock: no report: '{word}'; a report is EVENT=MINUTES, two whole numbers up to 65535, in decimal"

@@ -1,4 +1,4 @@
-//! The dock program: reads, checks, prints and writes sheets, answers for the carry rules, and looks ahead of delays.
+//! The dock program: reads, checks, prints and writes sheets, answers for the carry rules, looks ahead of delays, and keeps a board.
 #![tactic(auto)]
 
 use command::Command;
@@ -8,14 +8,15 @@ use std::process::ExitCode;
 mod command;
 mod fault;
 mod files;
+mod keep;
 mod pack;
 mod rules;
 mod show;
-mod tables;
 mod worst;
 
 const USAGE: &str =
-    "dock: reads, checks, prints and writes sheets, answers for the carry rules, and looks ahead of delays
+    "dock: reads, checks, prints and writes sheets, answers for the carry rules, looks ahead of delays,
+and keeps a board
 
   dock show SHEET                      print the sheet as a listing, or why it is refused
   dock pack LISTING SHEET              make a sheet from a listing
@@ -24,6 +25,8 @@ const USAGE: &str =
                                        the allowance is handed on
   dock worst SHEET [--rule RULE] EVENT=MINUTES..
                                        print what these delays lead to when every transfer waits
+  dock keep SHEET [--rule RULE] [--tariff TARIFF] [--number NUMBER] [CALLS]
+                                       keep a board by the calls of a file, or by those that are typed
   dock --help                          print this
 
 RULE is one of
@@ -41,6 +44,26 @@ anywhere after SHEET, and is deduct otherwise. Three lines are printed:
   clear                 or 'meet E': delays meet at event E, the lowest such event; or else
                         'tangled L': lot L, the lowest such lot, has a live transfer on its way,
                         later a step that is not live, and then a live transfer or a late end
+
+'keep' opens a board on the sheet and performs calls, one a line, from the file CALLS, or from the
+standard input where none is named. It prints each answer as its line comes. The calls are
+  report EVENT MINUTES  the event is delayed by so many minutes, at most the period
+  hold TRANSFER         the transfer waits; prints a slip with the board's number and its own
+  release TRANSFER      spends the transfer's slip; 'no slip' where none is held
+  strike TRANSFER       the transfer goes
+  clear TRANSFER        it is struck no more
+  trial TRANSFER        what a plan would cost with this transfer struck
+  plan                  the toll, how many transfers go, how late each event is, and for each
+                        activity 1 where it goes and 0 otherwise
+  reserve               the greatest delay that each event may have alone
+Blank lines and lines that begin with '#' are passed over, and 'line 4: not a call' tells that line 4
+is none of these. 'report 0 61: refused 10' tells why a call is refused: 9 no such event or
+activity, 10 minutes above the period, 11 no transfer, 12 held or struck already, 13 not struck,
+16 delays meet at the event named, 17 the lot named is tangled. At the end 'slips out: 1 4' names the
+transfers that are held still. NUMBER is the board's, from 0 to 65535, and 0 where none is given.
+TARIFF is one of
+  parcel-minutes   each parcel counts its minutes; the default
+  ranked           express parcel-minutes count first, ordinary ones between equals: (0, 460)
 
 A sheet that is refused prints one line, as 'refused 5 section 3 record 2 byte 34', and a line of
 a listing that cannot be read prints its number and what is wrong, as 'line 7: ..'. A delay of an
@@ -74,5 +97,6 @@ fn run(rt: &HostRuntime) -> Result<(), DockFault> {
             allowance,
         } => rules::remains(rt, rule, margin, allowance),
         Command::Worst { sheet, words } => worst::run(rt, sheet, words),
+        Command::Keep { sheet, words } => keep::run(rt, sheet, words),
     }
 }

@@ -1,7 +1,7 @@
 //! `dock pack`: makes a sheet from a listing.
 use crate::fault::DockFault;
 use crate::files;
-use crate::tables::Tables;
+use desk::room::Tables;
 use std::fs;
 
 pub fn run(rt: &HostRuntime, listing: String, sheet: String) -> Result<(), DockFault> {

@@ -1,7 +1,7 @@
 //! `dock show`: prints a sheet as a listing.
 use crate::fault::DockFault;
 use crate::files;
-use crate::tables::Tables;
+use desk::room::Tables;
 
 pub fn run(rt: &HostRuntime, sheet: String) -> Result<(), DockFault> {
     let bytes = files::read(rt, sheet)?;

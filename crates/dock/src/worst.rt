@@ -2,8 +2,8 @@
 use crate::fault::DockFault;
 use crate::files;
 use crate::rules::named;
-use crate::tables::Tables;
 use desk::reports::report;
+use desk::room::Tables;
 use desk::rules::RuleName;
 use outlook::report::Report;
 use std::alloc::Global;

@@ -1,0 +1,30 @@
+-- How what came of a call is told, after the call and its colon.
+--
+--   with_toll       the text that a toll's text makes, where the tariff says how a toll is told
+--   outcome_done    what came of a call that is done or refused
+--   outcome_text    the text of an outcome
+use Rattle.std.specs.Prelude.{ℕ, List, ◌++◌, Some, None, codes, decimal, Ok, Err, Option, Result}
+use Rattle.board.specs.declared.refusal.Refusal.{Refusal}
+use Rattle.board.specs.Refusals.{as_line, not_released}
+use Rattle.outlook.specs.Lines.{numbers_words, late_line}
+use Rattle.console.specs.declared.outcome.Outcome.{Outcome}
+use Rattle.console.specs.declared.outcome.Outcome.TheVariants.{Done, Slip, Refused, NotReleased, Toll, Plan, Reserves}
+
+abbrev pub with_toll : Option (List ℕ) → (List ℕ → List ℕ) → Option (List ℕ)
+with_toll None f = None
+with_toll (Some text) f = Some (f text)
+
+abbrev pub outcome_text : {X : Type 0} → (X → Option (List ℕ)) → Outcome X → Option (List ℕ)
+outcome_text output Done = Some (codes " done")
+outcome_text output (Slip board a) = Some (codes " slip " ++ (decimal board ++ (codes " " ++ decimal a)))
+outcome_text output (Refused refusal) = Some (codes " " ++ as_line refusal)
+outcome_text output NotReleased = Some (codes " refused " ++ decimal not_released)
+outcome_text output (Toll toll) = with_toll (output toll) (λ text. codes " toll " ++ text)
+outcome_text output (Plan toll gone late choices) =
+    with_toll (output toll)
+    (λ text. codes " toll " ++ (text ++ (codes " gone " ++ (decimal gone ++ (codes "\n" ++ (late_line late.now ++ (codes "\nchoices" ++ numbers_words choices.now)))))))
+outcome_text output (Reserves reserves) = Some (numbers_words reserves.now)
+
+abbrev pub outcome_done : {X : Type 0} → Result (Unit {0}) Refusal → Outcome X
+outcome_done (Ok x) = Done
+outcome_done (Err refusal) = Refused refusal

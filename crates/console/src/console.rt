@@ -1,0 +1,214 @@
+//! The console as a keeper: whoever writes at it orders the calls.
+ghost use Rattle.std.specs.Prelude.{◌≡◌, ◌<◌, ◌≤◌, ◌∷◌, [], ◌++◌, map, vec_len, vec_capacity, IfOk};
+ghost use Rattle.board.specs.Ledger.{Call};
+ghost use Rattle.keeper.specs.Orders.{answered};
+ghost use Rattle.console.specs.Notes.{call_noted};
+ghost use Rattle.console.specs.Outcomes.{outcome_done};
+ghost use Rattle.console.specs.Turns.{HasRoom, ReadyFor};
+
+use crate::asked::Asked;
+use crate::hand::{SlipsLine, take};
+use crate::lines::{Lines, Said, read_line};
+use crate::noted::Noted;
+use crate::outcome::Outcome;
+use board::board::Board;
+use board::refusal::Refusal;
+use board::slip::{NotReleased, Slip};
+use keeper::order::{Answer, Order};
+use keeper::tend::{Keeper, Shown};
+use std::alloc::Global;
+use std::fmt::Display;
+use std::io;
+use std::io::{BufRead, Write};
+
+/// A console: the lines that are written at it, where it tells what comes of them, the calls that were performed, and the slips that it holds.
+/// An error of input, output or memory ends its run and is kept.
+pub struct Console<L, W> {
+    heap: Global,
+    lines: Lines<L>,
+    out: W,
+    past: Vec<Noted>,
+    slips: Vec<Slip>,
+    fault: Option<io::Error>,
+}
+
+/// What a line leads to.
+pub enum Turn {
+    Order(Order<()>),
+    /// There is no call to perform.
+    Again,
+    /// The input is at its end.
+    Over,
+}
+
+impl<L: BufRead, W: Write> Console<L, W> {
+    /// The order of a call that was asked for, once there is room for its answer. There is none for a release without a slip, which is told.
+    fn order(&mut self, asked: Asked) -> io::Result<Turn>
+        ensures past { self.new.past.items ≡ self.old.past.items }
+        ensures ready { IfOk result (ReadyFor (HasRoom self.new.past × HasRoom self.new.slips)) }
+    {
+        self.past.reserve(1)?;
+        self.slips.reserve(1)?;
+        Ok(match asked {
+            Asked::Report(event, minutes) => Turn::Order(Order::Report(event, minutes)),
+            Asked::Hold(a) => Turn::Order(Order::Hold(a)),
+            Asked::Release(a) => match take(&mut self.slips, a) {
+                Some(slip) => Turn::Order(Order::Release(slip)),
+                None => {
+                    writeln!(self.out, "release {a}: no slip")?;
+                    Turn::Again
+                }
+            },
+            Asked::Strike(a) => Turn::Order(Order::Strike(a)),
+            Asked::Clear(a) => Turn::Order(Order::Clear(a)),
+            Asked::Trial(a) => Turn::Order(Order::Trial(a)),
+            Asked::Plan => Turn::Order(Order::Plan),
+            Asked::Reserve => Turn::Order(Order::Reserve(())),
+        })
+    }
+
+    /// What the next line leads to.
+    fn turn(&mut self) -> io::Result<Turn>
+        ensures past { self.new.past.items ≡ self.old.past.items }
+        ensures ready { IfOk result (ReadyFor (HasRoom self.new.past × HasRoom self.new.slips)) }
+    {
+        let Some(line) = self.lines.next_line()? else {
+            return Ok(Turn::Over);
+        };
+        match read_line(self.heap, line.as_slice())? {
+            Said::Nothing => Ok(Turn::Again),
+            Said::Call(asked) => self.order(asked),
+            Said::NoCall => {
+                let number = self.lines.number();
+                writeln!(self.out, "line {number}: not a call")?;
+                Ok(Turn::Again)
+            }
+        }
+    }
+}
+
+/// What came of a call that is done or refused.
+fn done<'s, X>(answer: Result<(), Refusal>) -> Outcome<'s, X>
+    ensures { result ≡ outcome_done answer }
+{
+    match answer {
+        Ok(()) => Outcome::Done,
+        Err(refusal) => Outcome::Refused(refusal),
+    }
+}
+
+/// The call that an answer answers, and what came of it; a slip goes to those that are held.
+fn heard<'s, X>(
+    slips: &mut Vec<Slip>,
+    answer: Answer<X>,
+    shown: Shown<'s>,
+) -> (Noted, Outcome<'s, X>)
+    requires { HasRoom slips.old }
+    ensures noted { call_noted result.0 ≡ answered answer }
+{
+    match answer {
+        Answer::Reported(event, minutes, answer) => (Noted::Report(event, minutes), done(answer)),
+        Answer::Held(a, Ok(slip)) => {
+            let board = slip.board();
+            let activity = slip.activity();
+            slips.push_reserved(slip);
+            (Noted::Hold(a), Outcome::Slip(board, activity))
+        }
+        Answer::Held(a, Err(refusal)) => (Noted::Hold(a), Outcome::Refused(refusal)),
+        Answer::Released(board, a) => (Noted::Release(board, a), Outcome::Done),
+        Answer::NotReleased(NotReleased { slip }) => {
+            let noted = Noted::Release(slip.board(), slip.activity());
+            slips.push_reserved(slip);
+            (noted, Outcome::NotReleased)
+        }
+        Answer::Struck(a, answer) => (Noted::Strike(a), done(answer)),
+        Answer::Cleared(a, answer) => (Noted::Clear(a), done(answer)),
+        Answer::Tried(a, Ok(toll)) => (Noted::Trial(a), Outcome::Toll(toll)),
+        Answer::Tried(a, Err(refusal)) => (Noted::Trial(a), Outcome::Refused(refusal)),
+        Answer::Planned(Ok((toll, gone))) => (
+            Noted::Plan,
+            Outcome::Plan(toll, gone, shown.late, shown.gone),
+        ),
+        Answer::Planned(Err(refusal)) => (Noted::Plan, Outcome::Refused(refusal)),
+        Answer::Reserved(Ok(())) => (Noted::Reserve, Outcome::Reserves(shown.reserves)),
+        Answer::Reserved(Err(refusal)) => (Noted::Reserve, Outcome::Refused(refusal)),
+    }
+}
+
+impl<X: Display + Copy, L: BufRead, W: Write> Keeper<X, ()> for Console<L, W> {
+    ghost log = { λ s. map call_noted s.past.items };
+
+    ghost ready = { λ s. HasRoom s.past × HasRoom s.slips };
+
+    fn next(&mut self) -> Option<Order<()>> {
+        if self.fault.is_some() {
+            return None;
+        }
+        for _ in 0..u64::MAX {
+            match self.turn() {
+                Ok(Turn::Order(order)) => return Some(order),
+                Ok(Turn::Again) => {}
+                Ok(Turn::Over) => return None,
+                Err(error) => {
+                    self.fault = Some(error);
+                    return None;
+                }
+            }
+        }
+        None
+    }
+
+    fn told(&mut self, answer: Answer<X>, shown: Shown)
+        requires { HasRoom self.old.past × HasRoom self.old.slips }
+        ensures { map call_noted self.new.past.items ≡ map call_noted self.old.past.items ++ (answered answer ∷ []) }
+    {
+        let (noted, outcome) = heard(&mut self.slips, answer, shown);
+        self.past.push_reserved(noted);
+        if let Err(error) = writeln!(self.out, "{noted}:{outcome}") {
+            self.fault = Some(error);
+        }
+    }
+}
+
+impl<L: BufRead + Drop, W: Write + Drop> Console<L, W> {
+    pub fn new(heap: Global, input: L, out: W) -> Console<L, W>
+        ensures past { result.past.items ≡ [] }
+        ensures slips { result.slips.items ≡ [] }
+    {
+        Console {
+            heap,
+            lines: Lines::new(heap, input),
+            out,
+            past: Vec::new(heap),
+            slips: Vec::new(heap),
+            fault: None,
+        }
+    }
+
+    /// Tells which slips are out, takes the board out of use with them, and answers the error that ended the run, if one did.
+    pub fn close(self, board: Board) -> io::Result<()> {
+        let Console {
+            heap: _,
+            lines: _,
+            mut out,
+            past: _,
+            slips,
+            fault,
+        } = self;
+        let told = tell_slips(&mut out, slips.as_slice(), fault);
+        board.close(slips);
+        told
+    }
+}
+
+/// Tells which slips are out, if any are, after a run that no error ended.
+fn tell_slips<W: Write>(out: &mut W, slips: &[Slip], fault: Option<io::Error>) -> io::Result<()> {
+    if let Some(error) = fault {
+        return Err(error);
+    }
+    if slips.is_empty() {
+        return Ok(());
+    }
+    let line = SlipsLine(slips);
+    writeln!(out, "{line}")
+}

@@ -1,0 +1,49 @@
+//! The slips that the console holds.
+ghost use Rattle.std.specs.Prelude.{◌≡◌, ◌≤◌, Some, vec_len, vec_capacity, IfSome};
+ghost use Rattle.console.specs.Hands.{transfers_words, slips_line};
+
+use board::slip::Slip;
+use std::fmt;
+
+/// The line that tells of the slips that are out, in the order in which they were had: the transfer of each.
+#[derive(Clone, Copy)]
+pub struct SlipsLine<'s>(pub &'s [Slip]);
+
+/// The transfers of slips, a blank before each.
+#[derive(Clone, Copy)]
+struct Transfers<'s>(&'s [Slip]);
+
+impl fmt::Display for Transfers<'_> {
+    ghost output = { λ s. Some (transfers_words s.0.now) };
+
+    fn fmt<W: fmt::Write>(&self, f: &mut fmt::Formatter<W>) -> fmt::Result {
+        for slip in self.0 {
+            let activity = slip.activity();
+            write!(f, " {activity}")?;
+        }
+        Ok(())
+    }
+}
+
+impl fmt::Display for SlipsLine<'_> {
+    ghost output = { λ s. Some (slips_line s.0.now) };
+
+    fn fmt<W: fmt::Write>(&self, f: &mut fmt::Formatter<W>) -> fmt::Result {
+        let transfers = Transfers(self.0);
+        write!(f, "slips out:{transfers}")
+    }
+}
+
+/// Takes an activity's slip out of those that are held, if there is one.
+pub fn take(slips: &mut Vec<Slip>, activity: u16) -> Option<Slip>
+    ensures own { IfSome result (λ slip. slip.activity ≡ activity) }
+    ensures fewer { vec_len slips.new ≤ vec_len slips.old }
+    ensures room { vec_capacity slips.old ≤ vec_capacity slips.new }
+{
+    for i in 0..slips.len() {
+        if slips[i].activity() == activity {
+            return Some(slips.remove(i));
+        }
+    }
+    None
+}

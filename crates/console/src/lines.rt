@@ -1,0 +1,75 @@
+//! The lines of an input, and what each says.
+ghost use Rattle.std.specs.Prelude.{◌≡◌, IfOk};
+ghost use Rattle.console.specs.Words.{said_of};
+
+use crate::asked::{Asked, read_call};
+use std::alloc::{AllocError, Global};
+use std::io;
+use std::io::BufRead;
+
+/// The lines of an input, counted from 1.
+#[derive(Drop)]
+pub struct Lines<L> {
+    heap: Global,
+    input: L,
+    count: u64,
+}
+
+impl<L: BufRead> Lines<L> {
+    pub fn new(heap: Global, input: L) -> Lines<L> {
+        Lines {
+            heap,
+            input,
+            count: 0,
+        }
+    }
+
+    /// The bytes of the next line, or none at the end of the input.
+    pub fn next_line(&mut self) -> io::Result<Option<Vec<u8>>> {
+        let mut line = Vec::new(self.heap);
+        if self.input.read_until(b'\n', &mut line)? == 0 {
+            return Ok(None);
+        }
+        self.count = self.count.saturating_add(1);
+        Ok(Some(line))
+    }
+
+    /// The number of the line that was read last.
+    pub fn number(&self) -> u64 {
+        self.count
+    }
+}
+
+/// What a line says.
+#[derive(Clone, Copy)]
+pub enum Said {
+    /// The line is blank, or begins with `#`.
+    Nothing,
+    Call(Asked),
+    NoCall,
+}
+
+/// What a line's words say.
+pub fn read_words(words: &[&str]) -> Said
+    ensures { result ≡ said_of words.now }
+{
+    let [first, rest @ ..] = words else {
+        return Said::Nothing;
+    };
+    match read_call(first, rest) {
+        Some(asked) => Said::Call(asked),
+        None => Said::NoCall,
+    }
+}
+
+/// What a line says; one that is no text is no call.
+pub fn read_line(heap: Global, line: &[u8]) -> Result<Said, AllocError> {
+    if line.starts_with(b"#") {
+        return Ok(Said::Nothing);
+    }
+    let Ok(text) = std::str::from_utf8(line) else {
+        return Ok(Said::NoCall);
+    };
+    let words: Vec<&str> = text.split_whitespace().collect(heap)?;
+    Ok(read_words(words.as_slice()))
+}
