@@ -4,3 +4,5 @@ pub mod Outcomes
 pub mod Hands
 pub mod Turns
 pub mod Tariffs
+pub mod Room
+pub mod Answers

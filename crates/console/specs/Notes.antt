@@ -1,7 +1,8 @@
 -- What is noted of calls.
 --
 --   call_noted    the call that a note is of
---   note_text     how it is told: a release by its transfer alone
+--   call_text     how a call is told: a release by its transfer alone
+--   note_text     how the call of a note is told
 use Rattle.std.specs.Prelude.{ℕ, List, ◌++◌, codes, decimal}
 use Rattle.board.specs.Ledger.{Call, report, hold, release, strike, clear, trial, plan, reserve}
 use Rattle.console.specs.declared.noted.Noted.{Noted}
@@ -17,12 +18,15 @@ call_noted (Trial a) = trial a
 call_noted Plan = plan
 call_noted Reserve = reserve
 
+abbrev pub call_text : Call → List ℕ
+call_text (report event minutes) = codes "report " ++ (decimal event ++ (codes " " ++ decimal minutes))
+call_text (hold a) = codes "hold " ++ decimal a
+call_text (release board a) = codes "release " ++ decimal a
+call_text (strike a) = codes "strike " ++ decimal a
+call_text (clear a) = codes "clear " ++ decimal a
+call_text (trial a) = codes "trial " ++ decimal a
+call_text plan = codes "plan"
+call_text reserve = codes "reserve"
+
 abbrev pub note_text : Noted → List ℕ
-note_text (Report event minutes) = codes "report " ++ (decimal event ++ (codes " " ++ decimal minutes))
-note_text (Hold a) = codes "hold " ++ decimal a
-note_text (Release board a) = codes "release " ++ decimal a
-note_text (Strike a) = codes "strike " ++ decimal a
-note_text (Clear a) = codes "clear " ++ decimal a
-note_text (Trial a) = codes "trial " ++ decimal a
-note_text Plan = codes "plan"
-note_text Reserve = codes "reserve"
+note_text note = call_text (call_noted note)

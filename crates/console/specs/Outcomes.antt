@@ -1,12 +1,13 @@
 -- How what came of a call is told, after the call and its colon.
 --
 --   with_toll       the text that a toll's text makes, where the tariff says how a toll is told
---   outcome_done    what came of a call that is done or refused
 --   outcome_text    the text of an outcome
-use Rattle.std.specs.Prelude.{ℕ, List, ◌++◌, Some, None, codes, decimal, Ok, Err, Option, Result}
-use Rattle.board.specs.declared.refusal.Refusal.{Refusal}
+--   answer_line     the line of a call and what came of it, with its end
+use Rattle.std.specs.Prelude.{ℕ, List, ◌++◌, Some, None, codes, decimal, Option}
 use Rattle.board.specs.Refusals.{as_line, not_released}
 use Rattle.outlook.specs.Lines.{numbers_words, late_line}
+use Rattle.board.specs.Ledger.{Call}
+use Rattle.console.specs.Notes.{call_text}
 use Rattle.console.specs.declared.outcome.Outcome.{Outcome}
 use Rattle.console.specs.declared.outcome.Outcome.TheVariants.{Done, Slip, Refused, NotReleased, Toll, Plan, Reserves}
 
@@ -25,6 +26,5 @@ outcome_text output (Plan toll gone late choices) =
     (λ text. codes " toll " ++ (text ++ (codes " gone " ++ (decimal gone ++ (codes "\n" ++ (late_line late.now ++ (codes "\nchoices" ++ numbers_words choices.now)))))))
 outcome_text output (Reserves reserves) = Some (numbers_words reserves.now)
 
-abbrev pub outcome_done : {X : Type 0} → Result (Unit {0}) Refusal → Outcome X
-outcome_done (Ok x) = Done
-outcome_done (Err refusal) = Refused refusal
+abbrev pub answer_line : {X : Type 0} → (X → Option (List ℕ)) → Call → Outcome X → Option (List ℕ)
+answer_line output call outcome = with_toll (outcome_text output outcome) (λ text. call_text call ++ (codes ":" ++ (text ++ codes "\n")))

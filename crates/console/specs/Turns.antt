@@ -1,16 +1,34 @@
--- When the console is ready for an answer.
+-- What a line leads to.
 --
---   HasRoom      there is room for one item more
---   Ready        for one call noted more, and for one slip
---   ReadyFor     that, where a line leads to an order
-use Rattle.std.specs.Prelude.{◌<◌, Vec, vec_len, vec_capacity}
+--   ReadyFor     a fact, where it is an order
+--   asked_in     what an order was asked for as
+--   Leads        a call that was asked for leads to its order, or to nothing where it is a release and no slip for it is held
+use Rattle.std.specs.Prelude.{◌≡◌, ℕ, List, None}
+use Rattle.board.specs.declared.slip.Slip.{Slip}
+use Rattle.keeper.specs.declared.order.Order.{Order}
+use Rattle.keeper.specs.declared.order.Order.TheVariants as order
+use Rattle.console.specs.declared.asked.Asked.{Asked}
+use Rattle.console.specs.declared.asked.Asked.TheVariants as asked
 use Rattle.console.specs.declared.console.Turn.{Turn}
-use Rattle.console.specs.declared.console.Turn.TheVariants.{Order, Again, Over}
-
-abbrev pub HasRoom : {X Z : Type 0} → Vec X Z → Type 0
-HasRoom v = vec_len v < vec_capacity v
+use Rattle.console.specs.declared.console.Turn.TheVariants as turn
+use Rattle.console.specs.Hands.{place_for}
 
 abbrev pub ReadyFor : Type 0 → Turn → Type 0
-ReadyFor ready (Order order) = ready
-ReadyFor ready Again = Unit {0}
-ReadyFor ready Over = Unit {0}
+ReadyFor ready (turn.Order order) = ready
+ReadyFor ready turn.Again = Unit {0}
+ReadyFor ready turn.Over = Unit {0}
+
+abbrev pub asked_in : {A : Type 0} → Order A → Asked
+asked_in (order.Report event minutes) = asked.Report event minutes
+asked_in (order.Hold a) = asked.Hold a
+asked_in (order.Release slip) = asked.Release slip.activity
+asked_in (order.Strike a) = asked.Strike a
+asked_in (order.Clear a) = asked.Clear a
+asked_in (order.Trial a) = asked.Trial a
+asked_in order.Plan = asked.Plan
+asked_in (order.Reserve ask) = asked.Reserve
+
+abbrev pub Leads : List Slip → Asked → Turn → Type 0
+Leads slips call (turn.Order order) = asked_in order ≡ call
+Leads slips call turn.Again = (a : ℕ) × (call ≡ asked.Release a) × (place_for a slips ≡ None)
+Leads slips call turn.Over = ⊥

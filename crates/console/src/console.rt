@@ -1,19 +1,22 @@
 //! The console as a keeper: whoever writes at it orders the calls.
-ghost use Rattle.std.specs.Prelude.{◌≡◌, ◌<◌, ◌≤◌, ◌∷◌, [], ◌++◌, map, vec_len, vec_capacity, IfOk};
-ghost use Rattle.board.specs.Ledger.{Call};
+ghost use Rattle.std.specs.Prelude.{◌≡◌, ◌∷◌, [], ◌++◌, map, None, IfOk};
+ghost use Rattle.std.specs.Option.{IfSome};
+ghost use Rattle.std.specs.Io.KnownBytes.{Appends};
 ghost use Rattle.keeper.specs.Orders.{answered};
 ghost use Rattle.console.specs.Notes.{call_noted};
-ghost use Rattle.console.specs.Outcomes.{outcome_done};
-ghost use Rattle.console.specs.Turns.{HasRoom, ReadyFor};
+ghost use Rattle.console.specs.Outcomes.{answer_line};
+ghost use Rattle.console.specs.Answers.{outcome_of};
+ghost use Rattle.console.specs.Room.{HasRoom};
+ghost use Rattle.console.specs.Turns.{ReadyFor, Leads};
 
+use crate::answers::heard;
 use crate::asked::Asked;
 use crate::hand::{SlipsLine, take};
 use crate::lines::{Lines, Said, read_line};
 use crate::noted::Noted;
 use crate::outcome::Outcome;
 use board::board::Board;
-use board::refusal::Refusal;
-use board::slip::{NotReleased, Slip};
+use board::slip::Slip;
 use keeper::order::{Answer, Order};
 use keeper::tend::{Keeper, Shown};
 use std::alloc::Global;
@@ -44,6 +47,7 @@ pub enum Turn {
 impl<L: BufRead, W: Write> Console<L, W> {
     /// The order of a call that was asked for, once there is room for its answer. There is none for a release without a slip, which is told.
     fn order(&mut self, asked: Asked) -> io::Result<Turn>
+        ensures leads { IfOk result (Leads self.old.slips.items asked) }
         ensures past { self.new.past.items ≡ self.old.past.items }
         ensures ready { IfOk result (ReadyFor (HasRoom self.new.past × HasRoom self.new.slips)) }
     {
@@ -87,54 +91,6 @@ impl<L: BufRead, W: Write> Console<L, W> {
     }
 }
 
-/// What came of a call that is done or refused.
-fn done<'s, X>(answer: Result<(), Refusal>) -> Outcome<'s, X>
-    ensures { result ≡ outcome_done answer }
-{
-    match answer {
-        Ok(()) => Outcome::Done,
-        Err(refusal) => Outcome::Refused(refusal),
-    }
-}
-
-/// The call that an answer answers, and what came of it; a slip goes to those that are held.
-fn heard<'s, X>(
-    slips: &mut Vec<Slip>,
-    answer: Answer<X>,
-    shown: Shown<'s>,
-) -> (Noted, Outcome<'s, X>)
-    requires { HasRoom slips.old }
-    ensures noted { call_noted result.0 ≡ answered answer }
-{
-    match answer {
-        Answer::Reported(event, minutes, answer) => (Noted::Report(event, minutes), done(answer)),
-        Answer::Held(a, Ok(slip)) => {
-            let board = slip.board();
-            let activity = slip.activity();
-            slips.push_reserved(slip);
-            (Noted::Hold(a), Outcome::Slip(board, activity))
-        }
-        Answer::Held(a, Err(refusal)) => (Noted::Hold(a), Outcome::Refused(refusal)),
-        Answer::Released(board, a) => (Noted::Release(board, a), Outcome::Done),
-        Answer::NotReleased(NotReleased { slip }) => {
-            let noted = Noted::Release(slip.board(), slip.activity());
-            slips.push_reserved(slip);
-            (noted, Outcome::NotReleased)
-        }
-        Answer::Struck(a, answer) => (Noted::Strike(a), done(answer)),
-        Answer::Cleared(a, answer) => (Noted::Clear(a), done(answer)),
-        Answer::Tried(a, Ok(toll)) => (Noted::Trial(a), Outcome::Toll(toll)),
-        Answer::Tried(a, Err(refusal)) => (Noted::Trial(a), Outcome::Refused(refusal)),
-        Answer::Planned(Ok((toll, gone))) => (
-            Noted::Plan,
-            Outcome::Plan(toll, gone, shown.late, shown.gone),
-        ),
-        Answer::Planned(Err(refusal)) => (Noted::Plan, Outcome::Refused(refusal)),
-        Answer::Reserved(Ok(())) => (Noted::Reserve, Outcome::Reserves(shown.reserves)),
-        Answer::Reserved(Err(refusal)) => (Noted::Reserve, Outcome::Refused(refusal)),
-    }
-}
-
 impl<X: Display + Copy, L: BufRead, W: Write> Keeper<X, ()> for Console<L, W> {
     ghost log = { λ s. map call_noted s.past.items };
 
@@ -160,7 +116,8 @@ impl<X: Display + Copy, L: BufRead, W: Write> Keeper<X, ()> for Console<L, W> {
 
     fn told(&mut self, answer: Answer<X>, shown: Shown)
         requires { HasRoom self.old.past × HasRoom self.old.slips }
-        ensures { map call_noted self.new.past.items ≡ map call_noted self.old.past.items ++ (answered answer ∷ []) }
+        ensures log { map call_noted self.new.past.items ≡ map call_noted self.old.past.items ++ (answered answer ∷ []) }
+        ensures told { self.new.fault ≡ None → IfSome (answer_line X.output (answered answer) (outcome_of answer shown.entry)) (Appends (W.contents self.old.out) (W.contents self.new.out)) }
     {
         let (noted, outcome) = heard(&mut self.slips, answer, shown);
         self.past.push_reserved(noted);

@@ -1,6 +1,7 @@
 //! The slips that the console holds.
-ghost use Rattle.std.specs.Prelude.{◌≡◌, ◌≤◌, Some, vec_len, vec_capacity, IfSome};
-ghost use Rattle.console.specs.Hands.{transfers_words, slips_line};
+ghost use Rattle.std.specs.Prelude.{◌≡◌, ◌<◌, ◌≤◌, Some, None, length, vec_len, vec_capacity, IfSome, slice_index_or};
+ghost use Rattle.std.specs.Option.{IfNone};
+ghost use Rattle.console.specs.Hands.{transfers_words, slips_line, place_for, without};
 
 use board::slip::Slip;
 use std::fmt;
@@ -34,16 +35,25 @@ impl fmt::Display for SlipsLine<'_> {
     }
 }
 
-/// Takes an activity's slip out of those that are held, if there is one.
+/// The place of an activity's slip, the first one.
+fn place(slips: &[Slip], activity: u16) -> Option<usize>
+    ensures place { result ≡ place_for activity slips.now }
+    ensures within { IfSome result (λ i. i < length slips.now) }
+    ensures own { IfSome result (λ i. (d : Slip) → (slice_index_or slips.now i d).activity ≡ activity) }
+{
+    slips.iter().position(|slip| slip.activity() == activity)
+}
+
+/// Takes an activity's slip, the first one, out of those that are held, if there is one.
 pub fn take(slips: &mut Vec<Slip>, activity: u16) -> Option<Slip>
     ensures own { IfSome result (λ slip. slip.activity ≡ activity) }
+    ensures none { IfNone result (place_for activity slips.old.items ≡ None) }
+    ensures left { slips.new.items ≡ without activity slips.old.items }
     ensures fewer { vec_len slips.new ≤ vec_len slips.old }
     ensures room { vec_capacity slips.old ≤ vec_capacity slips.new }
 {
-    for i in 0..slips.len() {
-        if slips[i].activity() == activity {
-            return Some(slips.remove(i));
-        }
+    match place(slips.as_slice(), activity) {
+        Some(place) => Some(slips.remove(place)),
+        None => None,
     }
-    None
 }

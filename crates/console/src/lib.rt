@@ -1,6 +1,7 @@
 //! The console's keeper: it performs the calls that a person writes, one a line, and tells each answer as its line comes.
 #![tactic(auto)]
 
+mod answers;
 pub mod asked;
 pub mod console;
 pub mod hand;

@@ -1,5 +1,6 @@
 //! The lines of an input, and what each says.
-ghost use Rattle.std.specs.Prelude.{◌≡◌, IfOk};
+ghost use Rattle.std.specs.Prelude.{◌≡◌, ◌≢◌, Ok, IsUtf8, slice_index};
+ghost use Rattle.console.specs.declared.lines.Said.TheVariants.{Nothing, NoCall};
 ghost use Rattle.console.specs.Words.{said_of};
 
 use crate::asked::{Asked, read_call};
@@ -63,7 +64,10 @@ pub fn read_words(words: &[&str]) -> Said
 }
 
 /// What a line says; one that is no text is no call.
-pub fn read_line(heap: Global, line: &[u8]) -> Result<Said, AllocError> {
+pub fn read_line(heap: Global, line: &[u8]) -> Result<Said, AllocError>
+    ensures remark { slice_index line.now 0 ≡ 35 → result ≡ Ok Nothing }
+    ensures no_text { slice_index line.now 0 ≢ 35 → (IsUtf8 line.now → ⊥) → result ≡ Ok NoCall }
+{
     if line.starts_with(b"#") {
         return Ok(Said::Nothing);
     }
