@@ -1,13 +1,14 @@
 //! The console as a keeper: whoever writes at it orders the calls.
-ghost use Rattle.std.specs.Prelude.{◌≡◌, ◌∷◌, [], ◌++◌, map, None, IfOk};
+ghost use Rattle.std.specs.Prelude.{◌≡◌, ◌∷◌, [], ◌++◌, map, None, IfOk, OnOk};
 ghost use Rattle.std.specs.Option.{IfSome};
 ghost use Rattle.std.specs.Io.KnownBytes.{Appends};
 ghost use Rattle.keeper.specs.Orders.{answered};
 ghost use Rattle.console.specs.Notes.{call_noted};
 ghost use Rattle.console.specs.Outcomes.{answer_line};
 ghost use Rattle.console.specs.Answers.{outcome_of};
+ghost use Rattle.console.specs.Hands.{slips_back};
 ghost use Rattle.console.specs.Room.{HasRoom};
-ghost use Rattle.console.specs.Turns.{ReadyFor, Leads};
+ghost use Rattle.console.specs.Turns.{ReadyFor, Leads, Follows, asked_back, said_back};
 
 use crate::answers::heard;
 use crate::asked::Asked;
@@ -44,10 +45,12 @@ pub enum Turn {
     Over,
 }
 
+#[tactic(auto, using(crate::proofs::Writing::appends_nothing))]
 impl<L: BufRead, W: Write> Console<L, W> {
     /// The order of a call that was asked for, once there is room for its answer. There is none for a release without a slip, which is told.
     fn order(&mut self, asked: Asked) -> io::Result<Turn>
         ensures leads { IfOk result (Leads self.old.slips.items asked) }
+        ensures told { OnOk result (Appends (W.contents self.old.out) (W.contents self.new.out) (asked_back self.old.slips.items asked)) }
         ensures past { self.new.past.items ≡ self.old.past.items }
         ensures ready { IfOk result (ReadyFor (HasRoom self.new.past × HasRoom self.new.slips)) }
     {
@@ -71,15 +74,14 @@ impl<L: BufRead, W: Write> Console<L, W> {
         })
     }
 
-    /// What the next line leads to.
-    fn turn(&mut self) -> io::Result<Turn>
+    /// What a line that says this leads to, once the console has told what it has to say of it.
+    fn follow(&mut self, said: Said) -> io::Result<Turn>
+        ensures follows { IfOk result (Follows self.old.slips.items said) }
+        ensures told { OnOk result (Appends (W.contents self.old.out) (W.contents self.new.out) (said_back self.old.lines.count self.old.slips.items said)) }
         ensures past { self.new.past.items ≡ self.old.past.items }
         ensures ready { IfOk result (ReadyFor (HasRoom self.new.past × HasRoom self.new.slips)) }
     {
-        let Some(line) = self.lines.next_line()? else {
-            return Ok(Turn::Over);
-        };
-        match read_line(self.heap, line.as_slice())? {
+        match said {
             Said::Nothing => Ok(Turn::Again),
             Said::Call(asked) => self.order(asked),
             Said::NoCall => {
@@ -87,6 +89,20 @@ impl<L: BufRead, W: Write> Console<L, W> {
                 writeln!(self.out, "line {number}: not a call")?;
                 Ok(Turn::Again)
             }
+        }
+    }
+
+    /// What the next line leads to.
+    fn turn(&mut self) -> io::Result<Turn>
+        ensures past { self.new.past.items ≡ self.old.past.items }
+        ensures ready { IfOk result (ReadyFor (HasRoom self.new.past × HasRoom self.new.slips)) }
+    {
+        match self.lines.next_line()? {
+            Some(line) => {
+                let said = read_line(self.heap, line.as_slice())?;
+                self.follow(said)
+            }
+            None => Ok(Turn::Over),
         }
     }
 }
@@ -128,7 +144,8 @@ impl<X: Display + Copy, L: BufRead, W: Write> Keeper<X, ()> for Console<L, W> {
 }
 
 impl<L: BufRead + Drop, W: Write + Drop> Console<L, W> {
-    pub fn new(heap: Global, input: L, out: W) -> Console<L, W>
+    /// A console where nothing was written yet.
+    pub(crate) fn new(heap: Global, input: L, out: W) -> Console<L, W>
         ensures past { result.past.items ≡ [] }
         ensures slips { result.slips.items ≡ [] }
     {
@@ -143,7 +160,7 @@ impl<L: BufRead + Drop, W: Write + Drop> Console<L, W> {
     }
 
     /// Tells which slips are out, takes the board out of use with them, and answers the error that ended the run, if one did.
-    pub fn close(self, board: Board) -> io::Result<()> {
+    pub(crate) fn close(self, board: Board) -> io::Result<()> {
         let Console {
             heap: _,
             lines: _,
@@ -159,7 +176,10 @@ impl<L: BufRead + Drop, W: Write + Drop> Console<L, W> {
 }
 
 /// Tells which slips are out, if any are, after a run that no error ended.
-fn tell_slips<W: Write>(out: &mut W, slips: &[Slip], fault: Option<io::Error>) -> io::Result<()> {
+#[tactic(auto, using(crate::proofs::Writing::appends_nothing))]
+fn tell_slips<W: Write>(out: &mut W, slips: &[Slip], fault: Option<io::Error>) -> io::Result<()>
+    ensures { OnOk result (Appends (W.contents out.old) (W.contents out.new) (slips_back slips.now)) }
+{
     if let Some(error) = fault {
         return Err(error);
     }

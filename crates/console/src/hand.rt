@@ -1,5 +1,5 @@
 //! The slips that the console holds.
-ghost use Rattle.std.specs.Prelude.{◌≡◌, ◌<◌, ◌≤◌, Some, None, length, vec_len, vec_capacity, IfSome, slice_index_or};
+ghost use Rattle.std.specs.Prelude.{◌≡◌, ℕ, ◌<◌, ◌≤◌, Some, None, length, vec_len, vec_capacity, IfSome, slice_index_or};
 ghost use Rattle.std.specs.Option.{IfNone};
 ghost use Rattle.console.specs.Hands.{transfers_words, slips_line, place_for, without};
 
@@ -48,6 +48,7 @@ fn place(slips: &[Slip], activity: u16) -> Option<usize>
 pub fn take(slips: &mut Vec<Slip>, activity: u16) -> Option<Slip>
     ensures own { IfSome result (λ slip. slip.activity ≡ activity) }
     ensures none { IfNone result (place_for activity slips.old.items ≡ None) }
+    ensures some { IfSome result (λ _. (i : ℕ) × (place_for activity slips.old.items ≡ Some i)) }
     ensures left { slips.new.items ≡ without activity slips.old.items }
     ensures fewer { vec_len slips.new ≤ vec_len slips.old }
     ensures room { vec_capacity slips.old ≤ vec_capacity slips.new }

@@ -10,14 +10,14 @@ use std::io::BufRead;
 
 /// The lines of an input, counted from 1.
 #[derive(Drop)]
-pub struct Lines<L> {
+pub(crate) struct Lines<L> {
     heap: Global,
     input: L,
     count: u64,
 }
 
 impl<L: BufRead> Lines<L> {
-    pub fn new(heap: Global, input: L) -> Lines<L> {
+    pub(crate) fn new(heap: Global, input: L) -> Lines<L> {
         Lines {
             heap,
             input,
@@ -26,7 +26,7 @@ impl<L: BufRead> Lines<L> {
     }
 
     /// The bytes of the next line, or none at the end of the input.
-    pub fn next_line(&mut self) -> io::Result<Option<Vec<u8>>> {
+    pub(crate) fn next_line(&mut self) -> io::Result<Option<Vec<u8>>> {
         let mut line = Vec::new(self.heap);
         if self.input.read_until(b'\n', &mut line)? == 0 {
             return Ok(None);
@@ -36,7 +36,9 @@ impl<L: BufRead> Lines<L> {
     }
 
     /// The number of the line that was read last.
-    pub fn number(&self) -> u64 {
+    pub(crate) fn number(&self) -> u64
+        ensures { result ≡ self.now.count }
+    {
         self.count
     }
 }
