@@ -37,9 +37,7 @@ pub fn run(rt: &HostRuntime, sheet: String, words: Vec<String>) -> Result<(), Do
     } = read(words)?;
     let bytes = files::read(rt, sheet)?;
     let mut tables = Tables::new(rt.alloc())?;
-    let sheet = tables
-        .read(bytes.as_slice())
-        .map_err(DeskFault::Refused)?;
+    let sheet = tables.read(bytes.as_slice()).map_err(DeskFault::Refused)?;
     match calls {
         Some(name) => {
             let calls = files::read(rt, name)?;

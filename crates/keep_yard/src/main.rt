@@ -14,15 +14,7 @@ fn main(rt: HostRuntime) -> io::Result<()> {
     match tables.read(bytes.as_slice()) {
         Ok(sheet) => {
             let out = io::writer(&rt);
-            keep(
-                heap,
-                sheet,
-                7,
-                &Deduct,
-                &ParcelMinutes,
-                rt.reader(),
-                out,
-            )
+            keep(heap, sheet, 7, &Deduct, &ParcelMinutes, rt.reader(), out)
         }
         Err(fault) => println!(rt; "{fault}"),
     }
