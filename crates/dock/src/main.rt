@@ -57,10 +57,11 @@ standard input where none is named. It prints each answer as its line comes. The
                         activity 1 where it goes and 0 otherwise
   reserve               the greatest delay that each event may have alone
 Blank lines and lines that begin with '#' are passed over, and 'line 4: not a call' tells that line 4
-is none of these. 'report 0 61: refused 10' tells why a call is refused: 9 no such event or
-activity, 10 minutes above the period, 11 no transfer, 12 held or struck already, 13 not struck,
-16 delays meet at the event named, 17 the lot named is tangled. At the end 'slips out: 1 4' names the
-transfers that are held still. NUMBER is the board's, from 0 to 65535, and 0 where none is given.
+is none of these. 'report 0 61: refused 10' tells why a call is refused; it changes nothing, and the
+run goes on: 9 no such event or activity, 10 minutes above the period, 11 no transfer, 12 held or
+struck already, 13 not struck, 16 delays meet at the event named, 17 the lot named is tangled. At the
+end 'slips out: 1 4' names the transfers that are still held. The options may stand anywhere after
+SHEET. RULE is deduct where none is named, and NUMBER, the board's, from 0 to 65535, is 0.
 TARIFF is one of
   parcel-minutes   each parcel counts its minutes; the default
   ranked           express parcel-minutes count first, ordinary ones between equals: (0, 460)
