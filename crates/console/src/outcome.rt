@@ -4,7 +4,7 @@ ghost use Rattle.outlook.specs.Lines.{numbers_words};
 ghost use Rattle.console.specs.Outcomes.{outcome_text};
 
 use board::refusal::Refusal;
-use outlook::lines::LateLine;
+use outlook::lines::{LateLine, Numbers};
 use std::fmt;
 
 /// The number of a refused release.
@@ -26,24 +26,9 @@ pub enum Outcome<'s, X> {
     Reserves(&'s [u16]),
 }
 
-/// Minutes, a blank before each.
-#[derive(Clone, Copy)]
-struct Minutes<'s>(&'s [u16]);
-
 /// Bytes as numbers, a blank before each.
 #[derive(Clone, Copy)]
 struct Choices<'s>(&'s [u8]);
-
-impl fmt::Display for Minutes<'_> {
-    ghost output = { λ s. Some (numbers_words s.0.now) };
-
-    fn fmt<W: fmt::Write>(&self, f: &mut fmt::Formatter<W>) -> fmt::Result {
-        for number in self.0 {
-            write!(f, " {number}")?;
-        }
-        Ok(())
-    }
-}
 
 impl fmt::Display for Choices<'_> {
     ghost output = { λ s. Some (numbers_words s.0.now) };
@@ -73,7 +58,7 @@ impl<X: fmt::Display> fmt::Display for Outcome<'_, X> {
                 write!(f, " toll {toll} gone {gone}\n{late}\nchoices{choices}")
             }
             Outcome::Reserves(reserves) => {
-                let minutes = Minutes(reserves);
+                let minutes = Numbers(reserves);
                 write!(f, "{minutes}")
             }
         }

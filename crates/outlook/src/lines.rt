@@ -14,7 +14,7 @@ pub struct LiveLine<'a>(pub &'a [bool]);
 
 /// Numbers, a blank before each.
 #[derive(Clone, Copy)]
-struct Numbers<'a>(&'a [u16]);
+pub struct Numbers<'a>(pub &'a [u16]);
 
 /// The numbers of the cells that are true, a blank before each.
 #[derive(Clone, Copy)]
