@@ -16,16 +16,16 @@ module _ {A : Type 0} (rule : ℕ → ℕ → ℕ) (p : Prices A) (d : Day) (cel
     pub same_length : length after ≡ length cells
     same_length = ap length is ∙ length-set cells (e - 1) (event_bill p (yard_of rule d) (e - 1))
 
-    pub billed_more : e - 1 < length d.events.now → BilledFrom p rule d after (e - 1)
+    pub billed_more : e - 1 < length d.sheet.events.now → BilledFrom p rule d after (e - 1)
     billed_more w = record {
       room = omega (arith, same_length, b.room);
       holds = λ k h n.
           ap (λ (l : List A). get_or l k p.tolls.nought) is
-          ∙ one_below p.tolls.nought cells (e - 1) _ (length d.events.now) (event_bill p (yard_of rule d)) (omega (arith, w, b.room)) (λ j above below. b.holds j (omega (arith, above, down)) below) refl k h n;
+          ∙ one_below p.tolls.nought cells (e - 1) _ (length d.sheet.events.now) (event_bill p (yard_of rule d)) (omega (arith, w, b.room)) (λ j above below. b.holds j (omega (arith, above, down)) below) refl k h n;
     }
 
     -- the cells past the events are as they were
-    pub beyond_same : (old : List A) → e ≤ length d.events.now → ((other : A) (k : ℕ) → length d.events.now ≤ k → get_or cells k other ≡ get_or old k other)
-        → (other : A) (k : ℕ) → length d.events.now ≤ k → get_or after k other ≡ get_or old k other
+    pub beyond_same : (old : List A) → e ≤ length d.sheet.events.now → ((other : A) (k : ℕ) → length d.sheet.events.now ≤ k → get_or cells k other ≡ get_or old k other)
+        → (other : A) (k : ℕ) → length d.sheet.events.now ≤ k → get_or after k other ≡ get_or old k other
     beyond_same old w same other k h =
-        ap (λ (l : List A). get_or l k other) is ∙ beyond other cells (e - 1) _ (length d.events.now) old (omega (arith, w, down)) (same other) k h
+        ap (λ (l : List A). get_or l k other) is ∙ beyond other cells (e - 1) _ (length d.sheet.events.now) old (omega (arith, w, down)) (same other) k h

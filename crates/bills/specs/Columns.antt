@@ -23,8 +23,8 @@ module _ {A : Type 0} (p : Prices A) where
   lesser g a x = branch g p.tolls (fares_of p g) a x
 
   pub record BilledFrom (rule : ℕ → ℕ → ℕ) (d : Day) (cells : List A) (e : ℕ) : Type 0 where
-    pub room : length d.events.now ≤ length cells
-    pub holds : (k : ℕ) → e ≤ k → k < length d.events.now → slice_index_or cells k p.tolls.nought ≡ event_bill p (yard_of rule d) k
+    pub room : length d.sheet.events.now ≤ length cells
+    pub holds : (k : ℕ) → e ≤ k → k < length d.sheet.events.now → slice_index_or cells k p.tolls.nought ≡ event_bill p (yard_of rule d) k
 
   abbrev pub Billed : (ℕ → ℕ → ℕ) → Day → List A → Type 0
   Billed rule d cells = BilledFrom rule d cells 0

@@ -1,6 +1,6 @@
 //! What the lots pay that end at an event, and those over a transfer.
 ghost use Rattle.std.specs.Prelude.{◌≡◌, ℕ, ◌<◌, ◌≤◌, length, slice_index};
-ghost use Rattle.timetable.specs.Days.{Ready, WorstIn, yard_of};
+ghost use Rattle.timetable.specs.Days.{WorstIn, yard_of};
 ghost use Rattle.bills.specs.Charges.{Chargeable, late_due, miss_due};
 ghost use Rattle.bills.specs.Columns.{at_event, over_transfer};
 
@@ -9,7 +9,7 @@ use sums::charge::Charge;
 use sums::sum::sum_charges;
 use tariff::charges::Tariff;
 use timetable::day::Day;
-use timetable::steps::{finish_of, is_over, is_unstruck, lot_steps};
+use timetable::day::steps::is_over;
 
 /// A whole lot that ends at the event pays for so many minutes, and any other lot nothing.
 #[derive(Clone, Copy)]
@@ -25,9 +25,9 @@ impl<T: Tariff> Charge<T> for LateAt<'_> {
     ghost pays = { λ way tariff lot. late_due (T.Tariff.prices tariff) way.day way.event way.minutes lot };
 
     fn charge(&self, tariff: &T, lot: Lot) -> T::Toll {
-        let steps = lot_steps(self.day, lot);
-        if finish_of(self.day, steps) == self.event && is_unstruck(self.day, steps) {
-            tariff.late(lot.class, lot.parcels as u32, self.minutes)
+        let steps = self.day.steps_of(lot);
+        if self.day.end_of(steps) == self.event && self.day.is_unstruck(steps) {
+            tariff.late(lot.class, u32::from(lot.parcels), self.minutes)
         } else {
             tariff.nought()
         }
@@ -42,14 +42,14 @@ pub struct MissOver<'a> {
 }
 
 impl<T: Tariff> Charge<T> for MissOver<'_> {
-    ghost can = { λ way tariff lot. Chargeable way.day way.day.period lot };
+    ghost can = { λ way tariff lot. Chargeable way.day way.day.sheet.period lot };
 
     ghost pays = { λ way tariff lot. miss_due (T.Tariff.prices tariff) way.day way.transfer lot };
 
     fn charge(&self, tariff: &T, lot: Lot) -> T::Toll {
-        let steps = lot_steps(self.day, lot);
-        if is_over(steps, self.transfer) && is_unstruck(self.day, steps) {
-            tariff.miss(lot.class, lot.parcels as u32, self.day.period)
+        let steps = self.day.steps_of(lot);
+        if is_over(steps, self.transfer) && self.day.is_unstruck(steps) {
+            tariff.miss(lot.class, u32::from(lot.parcels), self.day.sheet.period)
         } else {
             tariff.nought()
         }
@@ -57,23 +57,26 @@ impl<T: Tariff> Charge<T> for MissOver<'_> {
 }
 
 /// What the whole lots that end at event `e` pay there, where `late` holds the worst timetable.
-pub fn late_lots<T: Tariff>(tariff: &T, day: Day, late: &[u16], e: usize) -> T::Toll
-    requires ready { (Ready day) × (e < length day.events.now) }
+pub fn late_lots<T: Tariff>(tariff: &T, day: &Day, late: &[u16], e: usize) -> T::Toll
+    requires within { e < length day.now.sheet.events.now }
     requires short { (e < length late.now) × (slice_index late.now e ≤ 1440) }
-    ensures { (rule : ℕ → ℕ → ℕ) → WorstIn rule day.entry late.now → result ≡ at_event (T.prices tariff.now) (yard_of rule day.entry) e }
+    ensures { (rule : ℕ → ℕ → ℕ) → WorstIn rule day.now late.now → result ≡ at_event (T.prices tariff.now) (yard_of rule day.now) e }
 {
     let way = LateAt {
-        day,
+        day: *day,
         event: e,
         minutes: late[e],
     };
-    sum_charges(tariff, &way, day.lots)
+    sum_charges(tariff, &way, day.sheet.lots)
 }
 
 /// The miss bill of transfer `a`: what the whole lots over it pay if it goes.
-pub fn miss_bill<T: Tariff>(tariff: &T, day: Day, a: usize) -> T::Toll
-    requires ready { Ready day }
-    ensures { (rule : ℕ → ℕ → ℕ) → result ≡ over_transfer (T.prices tariff.now) (yard_of rule day.entry) a }
+pub fn miss_bill<T: Tariff>(tariff: &T, day: &Day, a: usize) -> T::Toll
+    ensures { (rule : ℕ → ℕ → ℕ) → result ≡ over_transfer (T.prices tariff.now) (yard_of rule day.now) a }
 {
-    sum_charges(tariff, &MissOver { day, transfer: a }, day.lots)
+    let way = MissOver {
+        day: *day,
+        transfer: a,
+    };
+    sum_charges(tariff, &way, day.sheet.lots)
 }

@@ -4,3 +4,4 @@
 pub mod charges;
 pub mod column;
 pub mod event_bill;
+pub mod priced;

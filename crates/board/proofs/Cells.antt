@@ -1,10 +1,9 @@
 -- A board's delays and marks, cell by cell, as the ledger's functions.
-use Rattle.std.proofs.Common.{◌≡◌, ℕ, zero, suc, ◌<◌, ◌≤◌, Bool, true, false, cond, eqb, ◌≢◌, ◌⊎◌, List, length, get_or, set, replicate, sym, refl, ap, ◌∙◌, subst, inl, inr, get_or-set_other, get_or-set_same}
+use Rattle.std.proofs.Common.{◌≡◌, ℕ, zero, suc, ◌<◌, ◌≤◌, Bool, true, false, cond, eqb, ◌≢◌, ◌⊎◌, List, length, None, get_or, set, replicate, sym, refl, ap, ◌∙◌, subst, inl, inr, get_or-set_other, get_or-set_same}
 use mathlib.Core.Path.{fun_ext}
 use Rattle.std.proofs.lemmas.Bool.{cases_eq, eq-eqb, ne_eqb, cond-true, cond-false}
 use Rattle.model.specs.declared.mark.Mark.{Mark}
 use Rattle.timetable.specs.declared.day.MarkRecord.{MarkRecord}
-use Rattle.timetable.specs.declared.day.Trial.TheVariants.{Idle}
 use Rattle.timetable.specs.Days.{no_mark, delay_on, mark_on}
 use Rattle.sheet.specs.declared.sheet.Sheet.{Sheet}
 use Rattle.sheet.specs.Sheets.{tables_of}
@@ -26,7 +25,7 @@ mark_of : (b : Bool) (v w : MarkRecord) → (cond b v w).mark ≡ cond b v.mark 
 mark_of true v w = refl
 mark_of false v w = refl
 
-pub mark_written : (l : List MarkRecord) (a : ℕ) (v : MarkRecord) → a < length l → mark_on (set l a v) Idle ≡ (λ k. cond (eqb k a) v.mark (mark_on l Idle k))
+pub mark_written : (l : List MarkRecord) (a : ℕ) (v : MarkRecord) → a < length l → mark_on (set l a v) None ≡ (λ k. cond (eqb k a) v.mark (mark_on l None k))
 mark_written l a v h = fun_ext (λ k. ap (λ (r : MarkRecord). r.mark) (written_at l a v no_mark h k) ∙ mark_of (eqb k a) v (get_or l k no_mark))
 
 -- all cells alike
@@ -44,8 +43,8 @@ timely_set period delays i v low h all k = subst (λ (x : ℕ). x ≤ period) (s
 
 -- the ledger after one mark record is changed
 pub marked_ledger : (sheet : Sheet) (number : ℕ) (delays : List ℕ) (marks : List MarkRecord) (at a : ℕ) (v : MarkRecord) (m : Mark) → at < length marks → at ≡ a → v.mark ≡ m
-    → record { sheet = tables_of sheet; number = number; delay = delay_on delays; mark = mark_on (set marks at v) Idle }
-    ≡ with_mark (record { sheet = tables_of sheet; number = number; delay = delay_on delays; mark = mark_on marks Idle }) a m
+    → record { sheet = tables_of sheet; number = number; delay = delay_on delays; mark = mark_on (set marks at v) None }
+    ≡ with_mark (record { sheet = tables_of sheet; number = number; delay = delay_on delays; mark = mark_on marks None }) a m
 marked_ledger sheet number delays marks at a v m h e w =
     ap (λ (f : ℕ → Mark). record { sheet = tables_of sheet; number = number; delay = delay_on delays; mark = f })
-    (mark_written marks at v h ∙ fun_ext (λ k. ap (λ (j : ℕ). cond (eqb k j) v.mark (mark_on marks Idle k)) e ∙ ap (λ (x : Mark). cond (eqb k a) x (mark_on marks Idle k)) w))
+    (mark_written marks at v h ∙ fun_ext (λ k. ap (λ (j : ℕ). cond (eqb k j) v.mark (mark_on marks None k)) e ∙ ap (λ (x : Mark). cond (eqb k a) x (mark_on marks None k)) w))

@@ -1,15 +1,16 @@
 -- What plan and reserve refuse, and what the day of a board says of the board.
-use Rattle.std.proofs.Common.{◌≡◌, ℕ, ◌≤◌, Bool, true, List, length, Some, None, Option, sym, ap, ◌∙◌, subst, arith}
+use Rattle.std.proofs.Common.{◌≡◌, ℕ, ◌≤◌, Bool, true, List, length, Some, None, Option, Ok, Err, Result, sym, ap, ◌∙◌, subst, arith}
 use Rattle.std.proofs.lemmas.Bool.{and_parts, leb-true, cond-true}
+use Rattle.std.specs.Result.{result_err, IsErrAnd}
 use Rattle.sheet.specs.Rules.{Tables, well_formed}
 use Rattle.carry.specs.Laws.{LawfulRule}
 use Rattle.model.specs.declared.mark.Mark.{Mark}
 use Rattle.model.specs.Yard.{Yard, noted}
 use Rattle.model.specs.Laws.{yard}
 use Rattle.model.proofs.Stands.{within_reserves, reserve_alone}
-use Rattle.planner.specs.declared.hindrance.Hindrance.{Hindrance}
-use Rattle.planner.specs.declared.hindrance.Hindrance.TheVariants as hindrance
-use Rattle.planner.specs.Plans.{hindered}
+use Rattle.timetable.specs.declared.forecast.hindrance.Hindrance.{Hindrance}
+use Rattle.timetable.specs.declared.forecast.hindrance.Hindrance.TheVariants as hindrance
+use Rattle.timetable.specs.Hindrances.{hindered}
 use Rattle.board.specs.declared.refusal.Refusal.{Refusal}
 use Rattle.board.specs.declared.refusal.Refusal.TheVariants.{ShortTable}
 use Rattle.board.specs.Refusals.{number_of}
@@ -53,3 +54,8 @@ law_so t rule delay mark reserves formed lawful cells =
           let s = reserve_alone rule lawful t delay mark formed event minutes k in
           (λ h. subst (λ (n : ℕ). minutes ≤ n) (sym (cells event k)) (s.0 h), λ h. s.1 (subst (λ (n : ℕ). minutes ≤ n) (cells event k) h));
     }
+
+-- a refusal that tells what stands in the way
+pub told_by : {X : Type 0} (r : Result X Refusal) (h : Hindrance) → IsErrAnd r (λ e. Some e ≡ told (Some h)) → result_err r ≡ told (Some h)
+told_by (Ok x) h p = absurd p
+told_by (Err e) h p = p

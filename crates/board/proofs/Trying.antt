@@ -1,5 +1,5 @@
 -- The yard with a transfer on trial is that of the ledger with it struck.
-use Rattle.std.proofs.Common.{◌≡◌, ℕ, Bool, true, false, cond, eqb, ◌⊎◌, List, is_ok, Option, sym, refl, ap, ◌∙◌, inl, inr}
+use Rattle.std.proofs.Common.{◌≡◌, ℕ, Bool, true, false, cond, eqb, ◌⊎◌, List, is_ok, None, Some, Option, sym, refl, ap, ◌∙◌, inl, inr}
 use mathlib.Core.Path.{fun_ext}
 use Rattle.std.proofs.lemmas.Bool.{cases_eq, eq-eqb, ne_eqb, cond-true}
 use Rattle.std.specs.Result.{result_err}
@@ -9,7 +9,6 @@ use Rattle.model.specs.declared.mark.Mark.TheVariants.{Struck}
 use Rattle.model.specs.Yard.{Yard}
 use Rattle.model.specs.Laws.{yard}
 use Rattle.timetable.specs.declared.day.MarkRecord.{MarkRecord}
-use Rattle.timetable.specs.declared.day.Trial.TheVariants.{Idle, Strike}
 use Rattle.timetable.specs.Days.{marked, delay_on, mark_on}
 use Rattle.board.specs.declared.refusal.Refusal.{Refusal}
 use Rattle.board.specs.Ledger.{Ledger, with_mark, step, strike, strike_answer, yard_on}
@@ -28,12 +27,12 @@ as_struck false m = refl
 
 module _ (t : Tables) (number : ℕ) (delays : List ℕ) (marks : List MarkRecord) (a : ℕ) where
   abbrev before : Ledger
-  before = record { sheet = t; number = number; delay = delay_on delays; mark = mark_on marks Idle }
+  before = record { sheet = t; number = number; delay = delay_on delays; mark = mark_on marks None }
 
-  tried_marks : mark_on marks (Strike a) ≡ (λ k. cond (eqb k a) Struck (mark_on marks Idle k))
-  tried_marks = fun_ext (λ k. as_struck (eqb a k) (mark_on marks Idle k) ∙ ap (λ (b : Bool). cond b Struck (mark_on marks Idle k)) (same_number a k))
+  tried_marks : mark_on marks (Some a) ≡ (λ k. cond (eqb k a) Struck (mark_on marks None k))
+  tried_marks = fun_ext (λ k. as_struck (eqb a k) (mark_on marks None k) ∙ ap (λ (b : Bool). cond b Struck (mark_on marks None k)) (same_number a k))
 
-  pub struck_yard : (rule : ℕ → ℕ → ℕ) → is_ok (strike_answer before a) ≡ true → yard t rule (delay_on delays) (mark_on marks (Strike a)) ≡ yard_on rule (step before (strike a))
+  pub struck_yard : (rule : ℕ → ℕ → ℕ) → is_ok (strike_answer before a) ≡ true → yard t rule (delay_on delays) (mark_on marks (Some a)) ≡ yard_on rule (step before (strike a))
   struck_yard rule ok =
       ap (λ (f : ℕ → Mark). yard t rule (delay_on delays) f) tried_marks
       ∙ ap (yard_on rule) (sym (cond-true (is_ok (strike_answer before a)) (with_mark before a Struck) before ok))

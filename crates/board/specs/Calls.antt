@@ -12,9 +12,9 @@ use Rattle.sheet.specs.Rules.{Tables}
 use Rattle.model.specs.Yard.{Yard, event_count, noted}
 use Rattle.model.specs.Laws.{yard, Tolerated, alone}
 use Rattle.model.specs.Reserves.{reserve}
-use Rattle.planner.specs.declared.hindrance.Hindrance.{Hindrance}
-use Rattle.planner.specs.declared.hindrance.Hindrance.TheVariants as hindrance
-use Rattle.planner.specs.Plans.{hindered}
+use Rattle.timetable.specs.declared.forecast.hindrance.Hindrance.{Hindrance}
+use Rattle.timetable.specs.declared.forecast.hindrance.Hindrance.TheVariants as hindrance
+use Rattle.timetable.specs.Hindrances.{hindered}
 use Rattle.board.specs.declared.refusal.Refusal.{Refusal}
 use Rattle.board.specs.declared.refusal.Refusal.TheVariants.{ShortTable, Meeting, Tangle}
 use Rattle.board.specs.Ledger.{Ledger, strike_answer}

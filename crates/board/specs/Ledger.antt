@@ -8,14 +8,13 @@
 --   steps          the ledger after a list of calls
 --   ledger_of      the ledger that a board is
 --   yard_on        the yard of a ledger under a carry rule
-use Rattle.std.specs.Prelude.{ℕ, Bool, true, false, cond, ◌&&◌, List, [], ◌∷◌, length, is_ok, Ok, Err, Result, ◌==◌, nat_le, nat_lt}
+use Rattle.std.specs.Prelude.{ℕ, Bool, true, false, cond, ◌&&◌, List, [], ◌∷◌, length, is_ok, None, Ok, Err, Result, ◌==◌, nat_le, nat_lt}
 use Rattle.sheet.specs.Rules.{Tables, activity_at}
 use Rattle.sheet.specs.Sheets.{tables_of}
 use Rattle.model.specs.declared.mark.Mark.{Mark}
 use Rattle.model.specs.declared.mark.Mark.TheVariants.{Unmarked, Held, Struck}
-use Rattle.model.specs.Yard.{Yard, is_transfer}
+use Rattle.model.specs.Yard.{Yard, is_transfer, is_struck, is_unmarked}
 use Rattle.model.specs.Laws.{yard}
-use Rattle.timetable.specs.declared.day.Trial.TheVariants.{Idle}
 use Rattle.timetable.specs.Days.{delay_on, mark_on}
 use Rattle.board.specs.declared.refusal.Refusal.{Refusal}
 use Rattle.board.specs.declared.refusal.Refusal.TheVariants.{NoSuch, TooLong, NoTransfer, Marked, NotStruck}
@@ -85,6 +84,15 @@ is_held Unmarked = false
 is_held Held = true
 is_held Struck = false
 
+abbrev pub same_mark : Mark → Mark → Bool
+same_mark Unmarked m = is_unmarked m
+same_mark Held m = is_held m
+same_mark Struck m = is_struck m
+
+-- the activity is a transfer with a mark; else why not, with what is told of another mark
+abbrev pub marked_answer : Ledger → ℕ → Mark → Refusal → Result (Unit {0}) Refusal
+marked_answer l a mark otherwise = cond (has_activity l a) (cond (transfers l a) (cond (same_mark mark (l.mark a)) (Ok tt) (Err otherwise)) (Err NoTransfer)) (Err NoSuch)
+
 -- the slip is this board's, and its transfer is held
 abbrev pub holds : Ledger → ℕ → ℕ → Bool
 holds l board activity = board == l.number && (has_activity l activity && is_held (l.mark activity))
@@ -121,7 +129,7 @@ steps l (c ∷ calls) = steps (step l c) calls
 -- ---- boards and yards
 
 abbrev pub ledger_of : Board → Ledger
-ledger_of b = record { sheet = tables_of b.sheet; number = b.number; delay = delay_on b.delays; mark = mark_on b.marks Idle }
+ledger_of b = record { sheet = tables_of b.sheet; number = b.number; delay = delay_on b.delays; mark = mark_on b.marks None }
 
 abbrev pub yard_on : (ℕ → ℕ → ℕ) → Ledger → Yard
 yard_on rule l = yard l.sheet rule l.delay l.mark

@@ -1,4 +1,5 @@
 pub mod Kept
+pub mod Tables
 pub mod Refusals
 pub mod Ledger
 pub mod Calls

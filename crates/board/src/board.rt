@@ -3,7 +3,7 @@ ghost use Rattle.std.specs.Prelude.{◌≡◌, true};
 ghost use Rattle.board.specs.Kept.{Timely, is_idle};
 
 use sheet::sheet::Sheet;
-use timetable::day::{MarkRecord, Trial};
+use timetable::day::MarkRecord;
 
 pub mod closing;
 pub mod marking;
@@ -18,7 +18,8 @@ pub mod trying;
 /// The strike that a trial tries, beside the marks.
 #[derive(Drop)]
 pub struct TrialRecord {
-    pub(crate) trial: Trial,
+    /// The transfer that counts as struck, while a trial is under way.
+    pub(crate) trial: Option<u16>,
 }
 
 /// A sheet on a day. Its arrays have a place for each event and activity of the largest sheet.
@@ -26,6 +27,7 @@ pub struct TrialRecord {
 pub struct Board<'a> {
     pub(crate) sheet: Sheet<'a>,
     pub(crate) number: u16,
+    // of a fixed size: a board holds no heap
     pub(crate) delays: [u16; 512],
     pub(crate) marks: [MarkRecord; 1024],
     pub(crate) trial: TrialRecord,

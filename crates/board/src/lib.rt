@@ -4,3 +4,4 @@
 pub mod board;
 pub mod refusal;
 pub mod slip;
+pub mod tables;

@@ -1,5 +1,6 @@
 //! Hold slips.
 ghost use Rattle.std.specs.Prelude.{◌≡◌};
+ghost use Rattle.board.specs.Refusals.{not_released};
 
 /// The right to release one held transfer of one board. It cannot be copied or let go: it goes to `release`.
 pub struct Slip {
@@ -7,9 +8,18 @@ pub struct Slip {
     pub(crate) activity: u16,
 }
 
-/// A release that was refused (14), with the slip.
+/// A release that was refused, with the slip.
 pub struct NotReleased {
     pub slip: Slip,
+}
+
+impl NotReleased {
+    /// The number of the refusal.
+    pub fn number() -> u8
+        ensures { result ≡ not_released }
+    {
+        14
+    }
 }
 
 impl Slip {

@@ -5,7 +5,7 @@ ghost use Rattle.std.proofs.Common.{rules};
 use crate::rule::{Carry, LONGEST, Measured};
 
 /// Hands on the lateness less the margin.
-#[derive(Clone, Copy)]
+#[derive(Clone, Copy, PartialEq, Eq, Debug)]
 pub struct Deduct;
 
 impl Carry for Deduct {

@@ -5,7 +5,7 @@ ghost use Rattle.std.proofs.Common.{rules};
 use crate::rule::{Carry, Measured};
 
 /// Hands on nothing up to the margin, and above it the whole lateness.
-#[derive(Clone, Copy)]
+#[derive(Clone, Copy, PartialEq, Eq, Debug)]
 pub struct Gate;
 
 impl Carry for Gate {
@@ -20,10 +20,6 @@ impl Carry for Gate {
 
 impl Measured for Gate {
     fn remains(&self, margin: u16, allowance: u16) -> u16 {
-        if allowance < margin {
-            margin
-        } else {
-            allowance
-        }
+        margin.max(allowance)
     }
 }

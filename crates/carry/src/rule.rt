@@ -12,7 +12,7 @@ pub trait Carry {
 
     /// The lateness handed on.
     fn carry(&self, margin: u16, lateness: u16) -> u16
-        requires { (margin ≤ 1440) × (lateness ≤ 1440) }
+        requires { (margin ≤ LONGEST) × (lateness ≤ LONGEST) }
         ensures { result ≡ hands self.now margin lateness };
 
     ghost lawful: { (rule : Self) → LawfulRule (hands rule) };
@@ -22,6 +22,6 @@ pub trait Carry {
 pub trait Measured: Carry {
     /// What remains: the greatest lateness up to 1,440 that hands on at most the allowance.
     fn remains(&self, margin: u16, allowance: u16) -> u16
-        requires { (margin ≤ 1440) × (allowance ≤ 1440) }
+        requires { (margin ≤ LONGEST) × (allowance ≤ LONGEST) }
         ensures { Remains (Self.Carry.hands self.now) margin allowance result };
 }

@@ -7,14 +7,14 @@ ghost use Rattle.carry.specs.Hundredths.{part_rising, part_le};
 use crate::rule::{Carry, LONGEST, Measured};
 
 /// Hands on what is left of the lateness when the margin's hundredths are taken off, rounded down.
-#[derive(Clone, Copy)]
+#[derive(Clone, Copy, PartialEq, Eq, Debug)]
 pub struct Share;
 
 /// How many hundredths are handed on: a margin above 100 counts as 100.
 fn kept_percent(margin: u16) -> u32
     ensures { result ≡ 100 - margin }
 {
-    100u16.saturating_sub(margin) as u32
+    u32::from(100u16.saturating_sub(margin))
 }
 
 impl Carry for Share {
@@ -28,7 +28,8 @@ impl Carry for Share {
         } };
 
     fn carry(&self, margin: u16, lateness: u16) -> u16 {
-        (lateness as u32 * kept_percent(margin) / 100) as u16
+        // no more than came, so `as` is proved to lose no bits; `try_from` would have a case that never comes
+        (u32::from(lateness) * kept_percent(margin) / 100) as u16
     }
 }
 
@@ -39,7 +40,7 @@ impl Measured for Share {
             return LONGEST;
         }
         // less than one minute above the allowance, in hundredths
-        let hundredths = allowance as u32 * 100 + 99;
-        (hundredths / percent).min(LONGEST as u32) as u16
+        let hundredths = u32::from(allowance) * 100 + 99;
+        (hundredths / percent).min(u32::from(LONGEST)) as u16
     }
 }

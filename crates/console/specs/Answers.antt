@@ -20,8 +20,8 @@ abbrev pub outcome_of : {X : Type 0} → Answer X → Shown → Outcome X
 outcome_of (answer.Reported event minutes r) shown = outcome_done r
 outcome_of (answer.Held a (Ok slip)) shown = outcome.Slip slip.board slip.activity
 outcome_of (answer.Held a (Err refusal)) shown = outcome.Refused refusal
-outcome_of (answer.Released board a) shown = outcome.Done
-outcome_of (answer.NotReleased n) shown = outcome.NotReleased
+outcome_of (answer.Released board a (Ok x)) shown = outcome.Done
+outcome_of (answer.Released board a (Err n)) shown = outcome.NotReleased
 outcome_of (answer.Struck a r) shown = outcome_done r
 outcome_of (answer.Cleared a r) shown = outcome_done r
 outcome_of (answer.Tried a (Ok toll)) shown = outcome.Toll toll
@@ -34,9 +34,9 @@ outcome_of (answer.Reserved (Err refusal)) shown = outcome.Refused refusal
 abbrev pub slips_in : {X : Type 0} → Answer X → List Slip
 slips_in (answer.Held a (Ok slip)) = slip ∷ []
 slips_in (answer.Held a (Err refusal)) = []
-slips_in (answer.NotReleased n) = n.slip ∷ []
+slips_in (answer.Released board a (Ok x)) = []
+slips_in (answer.Released board a (Err n)) = n.slip ∷ []
 slips_in (answer.Reported event minutes r) = []
-slips_in (answer.Released board a) = []
 slips_in (answer.Struck a r) = []
 slips_in (answer.Cleared a r) = []
 slips_in (answer.Tried a r) = []

@@ -1,5 +1,4 @@
 pub mod Words
-pub mod Notes
 pub mod Outcomes
 pub mod Hands
 pub mod Turns

@@ -5,9 +5,10 @@
 --   answer_line     the line of a call and what came of it, with its end
 use Rattle.std.specs.Prelude.{ℕ, List, ◌++◌, Some, None, codes, decimal, Option}
 use Rattle.board.specs.Refusals.{as_line, not_released}
-use Rattle.outlook.specs.Lines.{numbers_words, late_line}
+use Rattle.words.specs.Rows.{numbers_row}
+use Rattle.outlook.specs.Lines.{late_line}
 use Rattle.board.specs.Ledger.{Call}
-use Rattle.console.specs.Notes.{call_text}
+use Rattle.keeper.specs.Notes.{call_text}
 use Rattle.console.specs.declared.outcome.Outcome.{Outcome}
 use Rattle.console.specs.declared.outcome.Outcome.TheVariants.{Done, Slip, Refused, NotReleased, Toll, Plan, Reserves}
 
@@ -23,8 +24,8 @@ outcome_text output NotReleased = Some (codes " refused " ++ decimal not_release
 outcome_text output (Toll toll) = with_toll (output toll) (λ text. codes " toll " ++ text)
 outcome_text output (Plan toll gone late choices) =
     with_toll (output toll)
-    (λ text. codes " toll " ++ (text ++ (codes " gone " ++ (decimal gone ++ (codes "\n" ++ (late_line late.now ++ (codes "\nchoices" ++ numbers_words choices.now)))))))
-outcome_text output (Reserves reserves) = Some (numbers_words reserves.now)
+    (λ text. codes " toll " ++ (text ++ (codes " gone " ++ (decimal gone ++ (codes "\n" ++ (late_line late.now ++ (codes "\nchoices" ++ numbers_row choices.now)))))))
+outcome_text output (Reserves reserves) = Some (numbers_row reserves.now)
 
 abbrev pub answer_line : {X : Type 0} → (X → Option (List ℕ)) → Call → Outcome X → Option (List ℕ)
 answer_line output call outcome = with_toll (outcome_text output outcome) (λ text. call_text call ++ (codes ":" ++ (text ++ codes "\n")))

@@ -1,21 +1,21 @@
 //! What an answer is told as, and what is kept of it.
 ghost use Rattle.std.specs.Prelude.{◌≡◌, ◌++◌};
 ghost use Rattle.keeper.specs.Orders.{answered};
-ghost use Rattle.console.specs.Notes.{call_noted};
+ghost use Rattle.keeper.specs.Notes.{call_noted};
 ghost use Rattle.console.specs.Answers.{outcome_done, outcome_of, slips_in};
 ghost use Rattle.console.specs.Room.{HasRoom};
 
-use crate::noted::Noted;
 use crate::outcome::Outcome;
 use board::refusal::Refusal;
 use board::slip::{NotReleased, Slip};
-use keeper::order::Answer;
+use keeper::order::{Answer, Noted};
 use keeper::tend::Shown;
 
 /// What came of a call that is done or refused.
 fn done<'s, X>(answer: Result<(), Refusal>) -> Outcome<'s, X>
     ensures { result ≡ outcome_done answer }
 {
+    // map_or_else is not covered here: its result names a lifetime that neither function names
     match answer {
         Ok(()) => Outcome::Done,
         Err(refusal) => Outcome::Refused(refusal),
@@ -42,11 +42,10 @@ pub(crate) fn heard<'s, X>(
             (Noted::Hold(a), Outcome::Slip(board, activity))
         }
         Answer::Held(a, Err(refusal)) => (Noted::Hold(a), Outcome::Refused(refusal)),
-        Answer::Released(board, a) => (Noted::Release(board, a), Outcome::Done),
-        Answer::NotReleased(NotReleased { slip }) => {
-            let noted = Noted::Release(slip.board(), slip.activity());
+        Answer::Released(board, a, Ok(())) => (Noted::Release((board, a)), Outcome::Done),
+        Answer::Released(board, a, Err(NotReleased { slip })) => {
             slips.push_reserved(slip);
-            (noted, Outcome::NotReleased)
+            (Noted::Release((board, a)), Outcome::NotReleased)
         }
         Answer::Struck(a, answer) => (Noted::Strike(a), done(answer)),
         Answer::Cleared(a, answer) => (Noted::Clear(a), done(answer)),
@@ -57,7 +56,7 @@ pub(crate) fn heard<'s, X>(
             Outcome::Plan(toll, gone, shown.late, shown.gone),
         ),
         Answer::Planned(Err(refusal)) => (Noted::Plan, Outcome::Refused(refusal)),
-        Answer::Reserved(Ok(())) => (Noted::Reserve, Outcome::Reserves(shown.reserves)),
-        Answer::Reserved(Err(refusal)) => (Noted::Reserve, Outcome::Refused(refusal)),
+        Answer::Reserved(Ok(())) => (Noted::Reserve(()), Outcome::Reserves(shown.reserves)),
+        Answer::Reserved(Err(refusal)) => (Noted::Reserve(()), Outcome::Refused(refusal)),
     }
 }

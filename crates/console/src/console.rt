@@ -3,22 +3,21 @@ ghost use Rattle.std.specs.Prelude.{◌≡◌, ◌∷◌, [], ◌++◌, map, Non
 ghost use Rattle.std.specs.Option.{IfSome};
 ghost use Rattle.std.specs.Io.KnownBytes.{Appends};
 ghost use Rattle.keeper.specs.Orders.{answered};
-ghost use Rattle.console.specs.Notes.{call_noted};
+ghost use Rattle.keeper.specs.Notes.{call_noted};
 ghost use Rattle.console.specs.Outcomes.{answer_line};
 ghost use Rattle.console.specs.Answers.{outcome_of};
 ghost use Rattle.console.specs.Hands.{slips_back};
 ghost use Rattle.console.specs.Room.{HasRoom};
-ghost use Rattle.console.specs.Turns.{ReadyFor, Leads, Follows, asked_back, said_back};
+ghost use Rattle.console.specs.Turns.{Leads, Follows, asked_back, said_back};
 
 use crate::answers::heard;
 use crate::asked::Asked;
 use crate::hand::{SlipsLine, take};
 use crate::lines::{Lines, Said, read_line};
-use crate::noted::Noted;
 use crate::outcome::Outcome;
 use board::board::Board;
 use board::slip::Slip;
-use keeper::order::{Answer, Order};
+use keeper::order::{Answer, Noted, Order};
 use keeper::tend::{Keeper, Shown};
 use std::alloc::Global;
 use std::fmt::Display;
@@ -36,74 +35,70 @@ pub struct Console<L, W> {
     fault: Option<io::Error>,
 }
 
-/// What a line leads to.
-pub enum Turn {
-    Order(Order<()>),
-    /// There is no call to perform.
-    Again,
-    /// The input is at its end.
-    Over,
-}
-
 #[tactic(auto, using(crate::proofs::Writing::appends_nothing))]
 impl<L: BufRead, W: Write> Console<L, W> {
     /// The order of a call that was asked for, once there is room for its answer. There is none for a release without a slip, which is told.
-    fn order(&mut self, asked: Asked) -> io::Result<Turn>
+    fn order(&mut self, asked: Asked) -> io::Result<Option<Order<Slip, ()>>>
         ensures leads { IfOk result (Leads self.old.slips.items asked) }
         ensures told { OnOk result (Appends (W.contents self.old.out) (W.contents self.new.out) (asked_back self.old.slips.items asked)) }
         ensures past { self.new.past.items ≡ self.old.past.items }
-        ensures ready { IfOk result (ReadyFor (HasRoom self.new.past × HasRoom self.new.slips)) }
+        ensures ready { IfOk result (λ order. IfSome order (λ _. HasRoom self.new.past × HasRoom self.new.slips)) }
     {
         self.past.reserve(1)?;
         self.slips.reserve(1)?;
-        Ok(match asked {
-            Asked::Report(event, minutes) => Turn::Order(Order::Report(event, minutes)),
-            Asked::Hold(a) => Turn::Order(Order::Hold(a)),
-            Asked::Release(a) => match take(&mut self.slips, a) {
-                Some(slip) => Turn::Order(Order::Release(slip)),
-                None => {
+        Ok(Some(match asked {
+            Order::Report(event, minutes) => Order::Report(event, minutes),
+            Order::Hold(a) => Order::Hold(a),
+            Order::Release(a) => {
+                let Some(slip) = take(&mut self.slips, a) else {
                     writeln!(self.out, "release {a}: no slip")?;
-                    Turn::Again
-                }
-            },
-            Asked::Strike(a) => Turn::Order(Order::Strike(a)),
-            Asked::Clear(a) => Turn::Order(Order::Clear(a)),
-            Asked::Trial(a) => Turn::Order(Order::Trial(a)),
-            Asked::Plan => Turn::Order(Order::Plan),
-            Asked::Reserve => Turn::Order(Order::Reserve(())),
-        })
+                    return Ok(None);
+                };
+                Order::Release(slip)
+            }
+            Order::Strike(a) => Order::Strike(a),
+            Order::Clear(a) => Order::Clear(a),
+            Order::Trial(a) => Order::Trial(a),
+            Order::Plan => Order::Plan,
+            Order::Reserve(()) => Order::Reserve(()),
+        }))
     }
 
-    /// What a line that says this leads to, once the console has told what it has to say of it.
-    fn follow(&mut self, said: Said) -> io::Result<Turn>
+    /// The order that a line leads to which says this, once the console has told what it has to say of it; none, where there is no call to
+    /// perform.
+    fn follow(&mut self, said: Said) -> io::Result<Option<Order<Slip, ()>>>
         ensures follows { IfOk result (Follows self.old.slips.items said) }
         ensures told { OnOk result (Appends (W.contents self.old.out) (W.contents self.new.out) (said_back self.old.lines.count self.old.slips.items said)) }
         ensures past { self.new.past.items ≡ self.old.past.items }
-        ensures ready { IfOk result (ReadyFor (HasRoom self.new.past × HasRoom self.new.slips)) }
+        ensures ready { IfOk result (λ order. IfSome order (λ _. HasRoom self.new.past × HasRoom self.new.slips)) }
     {
         match said {
-            Said::Nothing => Ok(Turn::Again),
+            Said::Nothing => Ok(None),
             Said::Call(asked) => self.order(asked),
             Said::NoCall => {
                 let number = self.lines.number();
                 writeln!(self.out, "line {number}: not a call")?;
-                Ok(Turn::Again)
+                Ok(None)
             }
         }
     }
 
-    /// What the next line leads to.
-    fn turn(&mut self) -> io::Result<Turn>
+    /// The order of the next line that leads to one; none, where the input is at its end.
+    fn next_order(&mut self) -> io::Result<Option<Order<Slip, ()>>>
         ensures past { self.new.past.items ≡ self.old.past.items }
-        ensures ready { IfOk result (ReadyFor (HasRoom self.new.past × HasRoom self.new.slips)) }
+        ensures ready { IfOk result (λ order. IfSome order (λ _. HasRoom self.new.past × HasRoom self.new.slips)) }
     {
-        match self.lines.next_line()? {
-            Some(line) => {
-                let said = read_line(self.heap, line.as_slice())?;
-                self.follow(said)
+        // an input may never end, and a run has to
+        for _ in 0..u64::MAX {
+            let Some(line) = self.lines.next_line()? else {
+                return Ok(None);
+            };
+            let said = read_line(self.heap, line.as_slice())?;
+            if let Some(order) = self.follow(said)? {
+                return Ok(Some(order));
             }
-            None => Ok(Turn::Over),
         }
+        Ok(None)
     }
 }
 
@@ -112,22 +107,17 @@ impl<X: Display + Copy, L: BufRead, W: Write> Keeper<X, ()> for Console<L, W> {
 
     ghost ready = { λ s. HasRoom s.past × HasRoom s.slips };
 
-    fn next(&mut self) -> Option<Order<()>> {
+    fn next(&mut self) -> Option<Order<Slip, ()>> {
         if self.fault.is_some() {
             return None;
         }
-        for _ in 0..u64::MAX {
-            match self.turn() {
-                Ok(Turn::Order(order)) => return Some(order),
-                Ok(Turn::Again) => {}
-                Ok(Turn::Over) => return None,
-                Err(error) => {
-                    self.fault = Some(error);
-                    return None;
-                }
+        match self.next_order() {
+            Ok(order) => order,
+            Err(error) => {
+                self.fault = Some(error);
+                None
             }
         }
-        None
     }
 
     fn told(&mut self, answer: Answer<X>, shown: Shown)

@@ -1,37 +1,26 @@
 //! The slips that the console holds.
 ghost use Rattle.std.specs.Prelude.{◌≡◌, ℕ, ◌<◌, ◌≤◌, Some, None, length, vec_len, vec_capacity, IfSome, slice_index_or};
 ghost use Rattle.std.specs.Option.{IfNone};
-ghost use Rattle.console.specs.Hands.{transfers_words, slips_line, place_for, without};
+ghost use Rattle.console.specs.Hands.{slips_line, place_for, without};
 
 use board::slip::Slip;
 use std::fmt;
 
 /// The line that tells of the slips that are out, in the order in which they were had: the transfer of each.
+// not a `Row`: where a slip is had it is told by both its numbers, so it has no one `Display`
 #[derive(Clone, Copy)]
 pub struct SlipsLine<'s>(pub &'s [Slip]);
-
-/// The transfers of slips, a blank before each.
-#[derive(Clone, Copy)]
-struct Transfers<'s>(&'s [Slip]);
-
-impl fmt::Display for Transfers<'_> {
-    ghost output = { λ s. Some (transfers_words s.0.now) };
-
-    fn fmt<W: fmt::Write>(&self, f: &mut fmt::Formatter<W>) -> fmt::Result {
-        for slip in self.0 {
-            let activity = slip.activity();
-            write!(f, " {activity}")?;
-        }
-        Ok(())
-    }
-}
 
 impl fmt::Display for SlipsLine<'_> {
     ghost output = { λ s. Some (slips_line s.0.now) };
 
     fn fmt<W: fmt::Write>(&self, f: &mut fmt::Formatter<W>) -> fmt::Result {
-        let transfers = Transfers(self.0);
-        write!(f, "slips out:{transfers}")
+        write!(f, "slips out:")?;
+        for slip in self.0 {
+            let activity = slip.activity();
+            write!(f, " {activity}")?;
+        }
+        Ok(())
     }
 }
 
@@ -53,8 +42,6 @@ pub fn take(slips: &mut Vec<Slip>, activity: u16) -> Option<Slip>
     ensures fewer { vec_len slips.new ≤ vec_len slips.old }
     ensures room { vec_capacity slips.old ≤ vec_capacity slips.new }
 {
-    match place(slips.as_slice(), activity) {
-        Some(place) => Some(slips.remove(place)),
-        None => None,
-    }
+    let place = place(slips.as_slice(), activity)?;
+    Some(slips.remove(place))
 }

@@ -2,6 +2,7 @@
 use crate::console::Console;
 use carry::rule::Measured;
 use keeper::reserving::ByRemains;
+use keeper::tables::Tables;
 use keeper::tend::tend;
 use sheet::sheet::Sheet;
 use std::alloc::Global;
@@ -26,10 +27,17 @@ where
 {
     let (events, activities) = (sheet.events.len(), sheet.activities.len());
     let mut worst = vec![in heap; 0u16; events]?;
-    let mut cells = vec![in heap; tariff.nought(); events]?;
+    let mut bills = vec![in heap; tariff.nought(); events]?;
     let mut late = vec![in heap; 0u16; events]?;
     let mut gone = vec![in heap; 0u8; activities]?;
     let mut reserves = vec![in heap; 0u16; events]?;
+    let mut tables = Tables {
+        worst: worst.as_mut_slice(),
+        bills: bills.as_mut_slice(),
+        late: late.as_mut_slice(),
+        gone: gone.as_mut_slice(),
+        reserves: reserves.as_mut_slice(),
+    };
     let mut console = Console::new(heap, input, out);
     let (board, _plan) = tend(
         &mut console,
@@ -39,11 +47,7 @@ where
         rule,
         tariff,
         &ByRemains,
-        worst.as_mut_slice(),
-        cells.as_mut_slice(),
-        late.as_mut_slice(),
-        gone.as_mut_slice(),
-        reserves.as_mut_slice(),
+        &mut tables,
     );
     console.close(board)
 }

@@ -7,7 +7,5 @@ pub mod console;
 pub mod hand;
 pub mod keep;
 pub mod lines;
-pub mod noted;
 pub mod outcome;
 pub mod tariffs;
-pub mod verb;

@@ -44,7 +44,8 @@ impl<L: BufRead> Lines<L> {
 }
 
 /// What a line says.
-#[derive(Clone, Copy)]
+// three cases, none of them a failure: a blank line is passed over, and the console answers one that is no call
+#[derive(Clone, Copy, Debug, PartialEq, Eq, Hash)]
 pub enum Said {
     /// The line is blank, or begins with `#`.
     Nothing,
@@ -56,12 +57,9 @@ pub enum Said {
 pub fn read_words(words: &[&str]) -> Said
     ensures { result ≡ said_of words.now }
 {
-    let [first, rest @ ..] = words else {
-        return Said::Nothing;
-    };
-    match read_call(first, rest) {
-        Some(asked) => Said::Call(asked),
-        None => Said::NoCall,
+    match words {
+        [] => Said::Nothing,
+        [first, rest @ ..] => read_call(first, rest).map_or(Said::NoCall, Said::Call),
     }
 }
 

@@ -1,14 +1,11 @@
 //! What came of a call, as the console tells it.
-ghost use Rattle.std.specs.Prelude.{Some};
-ghost use Rattle.outlook.specs.Lines.{numbers_words};
 ghost use Rattle.console.specs.Outcomes.{outcome_text};
 
 use board::refusal::Refusal;
-use outlook::lines::{LateLine, Numbers};
+use board::slip::NotReleased;
+use outlook::lines::LateLine;
 use std::fmt;
-
-/// The number of a refused release.
-const NOT_RELEASED: u8 = 14;
+use words::row::Row;
 
 /// What came of a call; `X` is the tariff's kind of toll.
 #[derive(Clone, Copy)]
@@ -26,22 +23,8 @@ pub enum Outcome<'s, X> {
     Reserves(&'s [u16]),
 }
 
-/// Bytes as numbers, a blank before each.
-#[derive(Clone, Copy)]
-struct Choices<'s>(&'s [u8]);
-
-impl fmt::Display for Choices<'_> {
-    ghost output = { λ s. Some (numbers_words s.0.now) };
-
-    fn fmt<W: fmt::Write>(&self, f: &mut fmt::Formatter<W>) -> fmt::Result {
-        for number in self.0 {
-            write!(f, " {number}")?;
-        }
-        Ok(())
-    }
-}
-
 /// What stands after a call and its colon, a blank before each word; a plan has two lines more.
+#[tactic(auto, using(words::proofs::Showing::row_of_numbers))]
 impl<X: fmt::Display> fmt::Display for Outcome<'_, X> {
     ghost output = { outcome_text X.output };
 
@@ -50,15 +33,18 @@ impl<X: fmt::Display> fmt::Display for Outcome<'_, X> {
             Outcome::Done => write!(f, " done"),
             Outcome::Slip(board, activity) => write!(f, " slip {board} {activity}"),
             Outcome::Refused(refusal) => write!(f, " {refusal}"),
-            Outcome::NotReleased => write!(f, " refused {NOT_RELEASED}"),
+            Outcome::NotReleased => {
+                let number = NotReleased::number();
+                write!(f, " refused {number}")
+            }
             Outcome::Toll(toll) => write!(f, " toll {toll}"),
             Outcome::Plan(toll, gone, late, choices) => {
                 let late = LateLine(late);
-                let choices = Choices(choices);
+                let choices = Row(choices);
                 write!(f, " toll {toll} gone {gone}\n{late}\nchoices{choices}")
             }
             Outcome::Reserves(reserves) => {
-                let minutes = Numbers(reserves);
+                let minutes = Row(reserves);
                 write!(f, "{minutes}")
             }
         }

@@ -1,7 +1,7 @@
 -- A word parted at its first equals sign.
 use Rattle.std.proofs.Common.{◌≡◌, ℕ, zero, suc, ◌<◌, false, eqb, List, [], ◌∷◌, ◌++◌, length, get_or, Some, None, Option, sym, refl, ap, ◌∙◌, ap₂, arith}
 use Rattle.std.proofs.lemmas.Bool.{ne_eqb, cond-false}
-use Rattle.listing_read.specs.Words.{number_of}
+use Rattle.words.specs.Numbers.{number_of}
 use Rattle.desk.specs.Reported.{before_equals, after_equals, report_by, report_of}
 
 -- no equals sign stands in a text

@@ -1,4 +1,5 @@
 pub mod Desk
 pub mod Meanings
+pub mod Lawful
 pub mod Reported
 pub mod Ahead

@@ -3,7 +3,8 @@
 --   before_equals, after_equals    what stands before a word's first equals sign, and after it
 --   report_of                      the report of a word: a number, an equals sign and a number
 use Rattle.std.specs.Prelude.{ℕ, cond, List, [], ◌∷◌, Some, Option, ◌==◌}
-use Rattle.listing_read.specs.Words.{number_of, with}
+use Rattle.words.specs.Numbers.{number_of}
+use Rattle.listing_read.specs.Words.{with}
 use Rattle.outlook.specs.declared.report.Report.{Report}
 
 -- all of a word that has none

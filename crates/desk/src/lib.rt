@@ -3,11 +3,9 @@
 
 pub mod fault;
 pub mod minutes;
-pub mod number;
 pub mod pack;
 pub mod reports;
 pub mod room;
 pub mod rules;
 pub mod show;
-mod tables;
 pub mod worst;

@@ -1,14 +1,16 @@
 //! Numbers of minutes that a person writes: reading one, and refusing one that is too long.
-ghost use Rattle.std.specs.Prelude.{◌≡◌, Some, ◌==◌, slice_index};
+ghost use Rattle.std.specs.Prelude.{◌≡◌, Some};
 ghost use Rattle.std.specs.Option.{ok_or};
-ghost use Rattle.listing_read.specs.Words.{number_of};
+ghost use Rattle.std.specs.Result.{result_err};
+ghost use Rattle.words.specs.Numbers.{number_of};
 ghost use Rattle.desk.specs.Meanings.{argument_word, too_long};
 
 use carry::rule::LONGEST;
 use std::fmt;
+use words::number::number;
 
 /// A number that a rule is asked about; as a fault, the one that is no number from 0 to 1,440.
-#[derive(Clone, Copy)]
+#[derive(Clone, Copy, Debug, PartialEq, Eq, Hash)]
 pub enum Argument {
     Margin,
     Lateness,
@@ -27,36 +29,22 @@ impl fmt::Display for Argument {
     }
 }
 
-/// Whether a word begins with a plus sign, which Rust's `parse` takes and the desk does not.
-fn has_plus(word: &str) -> bool
-    ensures { result ≡ (slice_index word.now 0 == 43) }
-{
-    let bytes = word.as_bytes();
-    bytes.len() > 0 && bytes[0] == b'+'
-}
-
 /// The number of a word, a decimal of at most 65,535, or else the argument that it was to be.
 pub fn minutes(word: &str, argument: Argument) -> Result<u16, Argument>
     ensures { result ≡ ok_or (number_of word.now) argument }
 {
-    if has_plus(word) {
-        return Err(argument);
-    }
-    match word.parse::<u16>() {
-        Ok(n) => Ok(n),
-        Err(_) => Err(argument),
-    }
+    number(word).ok_or(argument)
 }
 
-/// The argument that is longer than a day, the margin before the other one.
-pub(crate) fn too_long(margin: u16, other: Argument, minutes: u16) -> Option<Argument>
-    ensures { result ≡ too_long margin other minutes }
+/// That neither number is longer than a day, or else the argument that is, the margin before the other one.
+pub(crate) fn within_a_day(margin: u16, other: Argument, minutes: u16) -> Result<(), Argument>
+    ensures { result_err result ≡ too_long margin other minutes }
 {
     if margin > LONGEST {
-        Some(Argument::Margin)
-    } else if minutes > LONGEST {
-        Some(other)
-    } else {
-        None
+        return Err(Argument::Margin);
     }
+    if minutes > LONGEST {
+        return Err(other);
+    }
+    Ok(())
 }

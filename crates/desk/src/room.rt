@@ -4,11 +4,10 @@ ghost use Rattle.sheet.specs.Bytes.{bytes_of};
 ghost use Rattle.sheet.specs.Sheets.{tables_of};
 ghost use Rattle.sheet_read.specs.Sheets.{room_in, reading_of};
 
-use crate::tables::sheet_in;
 use sheet::records::{Activity, Class, Event, Kind, Lot, Side};
 use sheet::sheet::Sheet;
 use sheet_read::fault::SheetFault;
-use sheet_read::read::read_sheet;
+use sheet_read::lent::LentTables;
 use std::alloc::{AllocError, Global};
 
 /// The tables that a sheet is read into.
@@ -51,24 +50,26 @@ impl Tables {
         })
     }
 
+    /// These tables, lent for one sheet.
+    pub fn lend(&mut self) -> LentTables<'_>
+        ensures events { result.events.now ≡ self.old.events.items }
+        ensures activities { result.activities.now ≡ self.old.activities.items }
+        ensures lots { result.lots.now ≡ self.old.lots.items }
+        ensures steps { result.steps.now ≡ self.old.steps.items }
+    {
+        LentTables {
+            events: self.events.as_mut_slice(),
+            activities: self.activities.as_mut_slice(),
+            lots: self.lots.as_mut_slice(),
+            steps: self.steps.as_mut_slice(),
+        }
+    }
+
     /// The sheet that these bytes hold, read into these tables.
     pub fn read<'t>(&'t mut self, bytes: &[u8]) -> Result<Sheet<'t>, SheetFault>
         ensures read { IfOk result (λ sheet. bytes_of (tables_of sheet) ≡ bytes.now) }
         ensures blames { IfErr result (λ fault. (reading_of (room_in self.old.events.items self.old.activities.items self.old.lots.items self.old.steps.items) bytes.now).answer ≡ Err fault) }
     {
-        let extent = read_sheet(
-            bytes,
-            self.events.as_mut_slice(),
-            self.activities.as_mut_slice(),
-            self.lots.as_mut_slice(),
-            self.steps.as_mut_slice(),
-        )?;
-        Ok(sheet_in(
-            extent,
-            self.events.as_slice(),
-            self.activities.as_slice(),
-            self.lots.as_slice(),
-            self.steps.as_slice(),
-        ))
+        self.lend().read(bytes)
     }
 }

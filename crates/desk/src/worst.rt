@@ -1,48 +1,23 @@
 //! Looking ahead of reported delays: the text of the outlook, or why there is none.
-ghost use Rattle.std.specs.Prelude.{◌≡◌, length, IfOk, IfErr, None, string_bytes, OnOk};
-ghost use Rattle.std.specs.Result.{result_err};
+ghost use Rattle.std.specs.Prelude.{◌≡◌, IfOk, IfErr, None, string_bytes, OnOk};
 ghost use Rattle.sheet.specs.Sheets.{tables_of};
-ghost use Rattle.sheet_read.specs.Sheets.{room_in, reading_of};
+ghost use Rattle.sheet_read.specs.Sheets.{reading_of};
+ghost use Rattle.sheet_read.specs.Lent.{room_of};
 ghost use Rattle.outlook.specs.Reports.{first_fault};
-ghost use Rattle.outlook.specs.Outlook.{ShowsWorst, ShowsLive, refusal_in, ahead, verdict_of};
+ghost use Rattle.outlook.specs.Outlook.{ahead};
 ghost use Rattle.desk.specs.declared.fault.DeskFault.TheVariants.{Memory};
 ghost use Rattle.desk.specs.Meanings.{meaning};
 ghost use Rattle.desk.specs.Ahead.{three_lines, outlook_text, Foreseen, BlamesAhead, Spoils};
 
 use crate::fault::DeskFault;
 use crate::rules::RuleName;
-use crate::tables::sheet_in;
-use carry::deduct::Deduct;
-use carry::gate::Gate;
-use carry::share::Share;
-use outlook::answer::{OutlookFault, Verdict};
+use outlook::answer::Verdict;
 use outlook::lines::{LateLine, LiveLine};
 use outlook::look::look_ahead;
 use outlook::report::Report;
-use sheet::records::{Activity, Event, Lot};
 use sheet::sheet::Sheet;
-use sheet_read::read::read_sheet;
+use sheet_read::lent::LentTables;
 use std::alloc::Global;
-
-/// Looks ahead under the rule of a name.
-fn look_by_name(
-    rule: RuleName,
-    sheet: &Sheet,
-    reports: &[Report],
-    late: &mut [u16],
-    lives: &mut [bool],
-) -> Result<Verdict, OutlookFault>
-    ensures refusal { result_err result ≡ refusal_in (tables_of sheet.now) reports.now (length late.old) (length lives.old) }
-    ensures verdict { IfOk result (λ v. v ≡ verdict_of (ahead (meaning rule) (tables_of sheet.now) reports.now)) }
-    ensures late { OnOk result (ShowsWorst (ahead (meaning rule) (tables_of sheet.now) reports.now) late.old late.new) }
-    ensures live { OnOk result (ShowsLive (ahead (meaning rule) (tables_of sheet.now) reports.now) lives.old lives.new) }
-{
-    match rule {
-        RuleName::Deduct => look_ahead(&Deduct, sheet, reports, late, lives),
-        RuleName::Gate => look_ahead(&Gate, sheet, reports, late, lives),
-        RuleName::Share => look_ahead(&Share, sheet, reports, late, lives),
-    }
-}
 
 /// The three lines of an outlook.
 fn lines_of(
@@ -71,16 +46,16 @@ fn outlook_on(
     ensures taken { OnOk result (first_fault (tables_of sheet.now) reports.now ≡ None) }
     ensures spoils { IfErr result (Spoils (tables_of sheet.now) reports.now) }
 {
+    // of a fixed size, that of the largest sheet: tables of the heap could fail
     let mut late = [0u16; 512];
     let mut lives = [false; 1024];
-    let verdict = look_by_name(rule, sheet, reports, &mut late, &mut lives)?;
-    let text = lines_of(
+    let verdict = look_ahead(&rule, sheet, reports, &mut late, &mut lives)?;
+    lines_of(
         heap,
         &late[0..sheet.events.len()],
         &lives[0..sheet.activities.len()],
         verdict,
-    )?;
-    Ok(text)
+    )
 }
 
 /// The outlook on the sheet that these bytes hold, read into the tables that the caller lends: the worst timetable, the
@@ -88,18 +63,15 @@ fn outlook_on(
 pub fn worst(
     heap: Global,
     bytes: &[u8],
-    events: &mut [Event],
-    activities: &mut [Activity],
-    lots: &mut [Lot],
-    steps: &mut [u16],
+    tables: LentTables<'_>,
     rule: RuleName,
     reports: &[Report],
 ) -> Result<String, DeskFault>
     ensures foreseen { IfOk result (λ text. Foreseen (meaning rule) bytes.now reports.now (string_bytes text)) }
-    ensures blames { IfErr result (BlamesAhead (reading_of (room_in events.old activities.old lots.old steps.old) bytes.now).answer bytes.now reports.now) }
+    ensures blames { IfErr result (BlamesAhead (reading_of (room_of tables.entry) bytes.now).answer bytes.now reports.now) }
 {
-    let extent = read_sheet(bytes, events, activities, lots, steps)?;
-    let sheet = sheet_in(extent, events, activities, lots, steps);
+    let sheet = tables.read(bytes)?;
+    // taken apart: what is foreseen is told by two promises of the text together
     let text = outlook_on(heap, rule, &sheet, reports)?;
     Ok(text)
 }

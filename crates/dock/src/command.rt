@@ -1,6 +1,7 @@
 //! The command line.
 use crate::fault::DockFault;
 use std::env;
+use std::env::Args;
 
 /// What the program is asked to do.
 #[derive(Drop)]
@@ -26,12 +27,12 @@ pub enum Command {
     Worst {
         sheet: String,
         /// The reports, and the rule's name after `--rule`.
-        words: Vec<String>,
+        words: Args,
     },
     Keep {
         sheet: String,
         /// The options, each with its word, and the file of calls.
-        words: Vec<String>,
+        words: Args,
     },
 }
 
@@ -42,35 +43,48 @@ pub fn read(rt: &HostRuntime) -> Result<Command, DockFault> {
     let Some(name) = args.next() else {
         return Ok(Command::Help);
     };
-    if name.as_str() == "worst" || name.as_str() == "keep" {
-        let Some(sheet) = args.next() else {
-            return Err(DockFault::Arguments(name));
-        };
-        let mut words = Vec::new(rt.alloc());
-        for word in args {
-            words.push(word)?;
+    match name.as_str() {
+        "--help" | "-h" | "help" => Ok(Command::Help),
+        "show" | "pack" | "carry" | "remains" | "worst" | "keep" => {
+            command_named(name.as_str(), args).ok_or(DockFault::Arguments(name))
         }
-        return Ok(match name.as_str() {
-            "worst" => Command::Worst { sheet, words },
-            _ => Command::Keep { sheet, words },
-        });
-    }
-    let (first, second, third, fourth) = (args.next(), args.next(), args.next(), args.next());
-    match (name.as_str(), first, second, third, fourth) {
-        ("--help" | "-h" | "help", _, _, _, _) => Ok(Command::Help),
-        ("show", Some(sheet), None, None, None) => Ok(Command::Show { sheet }),
-        ("pack", Some(listing), Some(sheet), None, None) => Ok(Command::Pack { listing, sheet }),
-        ("carry", Some(rule), Some(margin), Some(lateness), None) => Ok(Command::Carry {
-            rule,
-            margin,
-            lateness,
-        }),
-        ("remains", Some(rule), Some(margin), Some(allowance), None) => Ok(Command::Remains {
-            rule,
-            margin,
-            allowance,
-        }),
-        ("show" | "pack" | "carry" | "remains", _, _, _, _) => Err(DockFault::Arguments(name)),
         _ => Err(DockFault::NoCommand(name)),
     }
+}
+
+/// The command of this name, where so many words follow it as it takes.
+fn command_named(name: &str, mut words: Args) -> Option<Command> {
+    let command = match name {
+        "show" => Command::Show {
+            sheet: words.next()?,
+        },
+        "pack" => Command::Pack {
+            listing: words.next()?,
+            sheet: words.next()?,
+        },
+        "carry" => Command::Carry {
+            rule: words.next()?,
+            margin: words.next()?,
+            lateness: words.next()?,
+        },
+        "remains" => Command::Remains {
+            rule: words.next()?,
+            margin: words.next()?,
+            allowance: words.next()?,
+        },
+        "worst" => {
+            return Some(Command::Worst {
+                sheet: words.next()?,
+                words,
+            });
+        }
+        "keep" => {
+            return Some(Command::Keep {
+                sheet: words.next()?,
+                words,
+            });
+        }
+        _ => return None,
+    };
+    words.next().is_none().then_some(command)
 }

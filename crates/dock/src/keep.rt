@@ -2,22 +2,18 @@
 use crate::fault::DockFault;
 use crate::files;
 use crate::rules::named;
-use carry::deduct::Deduct;
-use carry::gate::Gate;
-use carry::rule::Measured;
-use carry::share::Share;
 use console::keep::keep;
-use console::tariffs::{TariffName, tariff_named};
+use console::tariffs::TariffName;
 use desk::fault::DeskFault;
-use desk::number::number;
 use desk::room::Tables;
 use desk::rules::RuleName;
 use sheet::sheet::Sheet;
-use std::alloc::Global;
+use std::env::Args;
 use std::io;
 use std::io::BufRead;
 use tariff::parcel_minutes::ParcelMinutes;
 use tariff::ranked::Ranked;
+use words::number::number;
 
 /// What the words after the sheet ask for.
 #[derive(Drop)]
@@ -28,7 +24,7 @@ struct Asked {
     calls: Option<String>,
 }
 
-pub fn run(rt: &HostRuntime, sheet: String, words: Vec<String>) -> Result<(), DockFault> {
+pub fn run(rt: &HostRuntime, sheet: String, words: Args) -> Result<(), DockFault> {
     let Asked {
         rule,
         tariff,
@@ -48,64 +44,38 @@ pub fn run(rt: &HostRuntime, sheet: String, words: Vec<String>) -> Result<(), Do
 }
 
 /// Reads the words in their order; a later option replaces an earlier one.
-fn read(words: Vec<String>) -> Result<Asked, DockFault> {
+fn read(mut words: Args) -> Result<Asked, DockFault> {
     let mut asked = Asked {
         rule: RuleName::Deduct,
         tariff: TariffName::ParcelMinutes,
         number: 0,
         calls: None,
     };
-    let mut words = words.into_iter();
+    // not a `for`: an option takes the word after it
     while let Some(word) = words.next() {
         match word.as_str() {
-            "--rule" => match words.next() {
-                Some(name) => asked.rule = named(name)?,
-                None => return Err(DockFault::Unnamed(word)),
-            },
-            "--tariff" => asked.tariff = tariff(after(word, words.next())?)?,
-            "--number" => asked.number = board_number(after(word, words.next())?)?,
-            _ => asked.calls = Some(calls(asked.calls.is_some(), word)?),
+            "--rule" => asked.rule = named(words.next().ok_or(DockFault::Unnamed(word))?)?,
+            "--tariff" => asked.tariff = tariff(words.next().ok_or(DockFault::Bare(word))?)?,
+            "--number" => asked.number = board_number(words.next().ok_or(DockFault::Bare(word))?)?,
+            option if option.starts_with("--") => return Err(DockFault::NoOption(word)),
+            _ if asked.calls.is_some() => return Err(DockFault::SecondFile(word)),
+            _ => asked.calls = Some(word),
         }
     }
     Ok(asked)
 }
 
-/// The word after an option, or the fault that names the option.
-fn after(option: String, word: Option<String>) -> Result<String, DockFault> {
-    match word {
-        Some(word) => Ok(word),
-        None => Err(DockFault::Bare(option)),
-    }
-}
-
 /// The tariff of this name, or the fault that names what was said.
 fn tariff(name: String) -> Result<TariffName, DockFault> {
-    match tariff_named(name.as_str()) {
-        Some(tariff) => Ok(tariff),
-        None => Err(DockFault::NoTariff(name)),
-    }
+    name.parse().map_err(|_| DockFault::NoTariff(name))
 }
 
 /// The number of this word, or the fault that quotes it.
 fn board_number(word: String) -> Result<u16, DockFault> {
-    match number(word.as_str()) {
-        Some(number) => Ok(number),
-        None => Err(DockFault::NoNumber(word)),
-    }
+    number(word.as_str()).ok_or(DockFault::NoNumber(word))
 }
 
-/// The file of calls that a word names, where none was named before it.
-fn calls(has_one: bool, word: String) -> Result<String, DockFault> {
-    if word.starts_with("--") {
-        return Err(DockFault::NoOption(word));
-    }
-    if has_one {
-        return Err(DockFault::SecondFile(word));
-    }
-    Ok(word)
-}
-
-/// Keeps a board under the rule and the tariff of these names.
+/// Keeps a board under a rule and the tariff of this name.
 fn keep_by_name<L: BufRead + Drop>(
     rt: &HostRuntime,
     sheet: Sheet<'_>,
@@ -114,28 +84,10 @@ fn keep_by_name<L: BufRead + Drop>(
     tariff: TariffName,
     input: L,
 ) -> Result<(), DockFault> {
-    match rule {
-        RuleName::Deduct => keep_under(rt, sheet, number, &Deduct, tariff, input),
-        RuleName::Gate => keep_under(rt, sheet, number, &Gate, tariff, input),
-        RuleName::Share => keep_under(rt, sheet, number, &Share, tariff, input),
-    }
-}
-
-/// Keeps a board under a rule and the tariff of this name.
-fn keep_under<R: Measured, L: BufRead + Drop>(
-    rt: &HostRuntime,
-    sheet: Sheet<'_>,
-    number: u16,
-    rule: &R,
-    tariff: TariffName,
-    input: L,
-) -> Result<(), DockFault> {
     let (heap, out) = (rt.alloc(), io::writer(rt));
     match tariff {
-        TariffName::ParcelMinutes => {
-            keep(heap, sheet, number, rule, &ParcelMinutes, input, out)?;
-        }
-        TariffName::Ranked => keep(heap, sheet, number, rule, &Ranked, input, out)?,
+        TariffName::ParcelMinutes => keep(heap, sheet, number, &rule, &ParcelMinutes, input, out)?,
+        TariffName::Ranked => keep(heap, sheet, number, &rule, &Ranked, input, out)?,
     }
     Ok(())
 }

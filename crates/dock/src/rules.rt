@@ -1,7 +1,7 @@
 //! `dock carry` and `dock remains`: print what a carry rule hands on, and what remains under it.
 use crate::fault::DockFault;
 use desk::minutes::{Argument, minutes};
-use desk::rules::{RuleName, rule_named};
+use desk::rules::RuleName;
 
 pub fn carry(
     rt: &HostRuntime,
@@ -9,12 +9,14 @@ pub fn carry(
     margin: String,
     lateness: String,
 ) -> Result<(), DockFault> {
-    let rule = named(rule)?;
-    let margin = minutes(margin.as_str(), Argument::Margin)?;
-    let lateness = minutes(lateness.as_str(), Argument::Lateness)?;
-    let handed = desk::rules::carry(rule, margin, lateness)?;
-    println!(rt; "{handed}")?;
-    Ok(())
+    tell(
+        rt,
+        rule,
+        margin,
+        lateness,
+        Argument::Lateness,
+        desk::rules::carry,
+    )
 }
 
 pub fn remains(
@@ -23,18 +25,36 @@ pub fn remains(
     margin: String,
     allowance: String,
 ) -> Result<(), DockFault> {
+    tell(
+        rt,
+        rule,
+        margin,
+        allowance,
+        Argument::Allowance,
+        desk::rules::remains,
+    )
+}
+
+/// Prints what a rule answers for a margin and for other minutes.
+fn tell<F: FnOnce(RuleName, u16, u16) -> Result<u16, Argument>>(
+    rt: &HostRuntime,
+    rule: String,
+    margin: String,
+    other: String,
+    argument: Argument,
+    answer: F,
+) -> Result<(), DockFault>
+    requires { F.IsAlwaysCallable answer }
+{
     let rule = named(rule)?;
     let margin = minutes(margin.as_str(), Argument::Margin)?;
-    let allowance = minutes(allowance.as_str(), Argument::Allowance)?;
-    let most = desk::rules::remains(rule, margin, allowance)?;
-    println!(rt; "{most}")?;
+    let other = minutes(other.as_str(), argument)?;
+    let told = answer(rule, margin, other)?;
+    println!(rt; "{told}")?;
     Ok(())
 }
 
 /// The rule of this name, or the fault that names what was said.
 pub fn named(name: String) -> Result<RuleName, DockFault> {
-    match rule_named(name.as_str()) {
-        Some(rule) => Ok(rule),
-        None => Err(DockFault::NoRule(name)),
-    }
+    name.parse().map_err(|_| DockFault::NoRule(name))
 }

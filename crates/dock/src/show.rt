@@ -6,14 +6,7 @@ use desk::room::Tables;
 pub fn run(rt: &HostRuntime, sheet: String) -> Result<(), DockFault> {
     let bytes = files::read(rt, sheet)?;
     let mut tables = Tables::new(rt.alloc())?;
-    let text = desk::show::show(
-        rt.alloc(),
-        bytes.as_slice(),
-        tables.events.as_mut_slice(),
-        tables.activities.as_mut_slice(),
-        tables.lots.as_mut_slice(),
-        tables.steps.as_mut_slice(),
-    )?;
+    let text = desk::show::show(rt.alloc(), bytes.as_slice(), tables.lend())?;
     print!(rt; "{text}")?;
     Ok(())
 }

@@ -7,6 +7,7 @@ use desk::room::Tables;
 use desk::rules::RuleName;
 use outlook::report::Report;
 use std::alloc::Global;
+use std::env::Args;
 
 /// What the words after the sheet ask about.
 #[derive(Drop)]
@@ -15,17 +16,14 @@ struct Asked {
     reports: Vec<Report>,
 }
 
-pub fn run(rt: &HostRuntime, sheet: String, words: Vec<String>) -> Result<(), DockFault> {
+pub fn run(rt: &HostRuntime, sheet: String, words: Args) -> Result<(), DockFault> {
     let asked = read(rt.alloc(), words)?;
     let bytes = files::read(rt, sheet)?;
     let mut tables = Tables::new(rt.alloc())?;
     let text = desk::worst::worst(
         rt.alloc(),
         bytes.as_slice(),
-        tables.events.as_mut_slice(),
-        tables.activities.as_mut_slice(),
-        tables.lots.as_mut_slice(),
-        tables.steps.as_mut_slice(),
+        tables.lend(),
         asked.rule,
         asked.reports.as_slice(),
     )?;
@@ -34,16 +32,13 @@ pub fn run(rt: &HostRuntime, sheet: String, words: Vec<String>) -> Result<(), Do
 }
 
 /// Reads the words in their order; a later rule replaces an earlier one, and deduct stands where none is named.
-fn read(heap: Global, words: Vec<String>) -> Result<Asked, DockFault> {
+fn read(heap: Global, mut words: Args) -> Result<Asked, DockFault> {
     let mut rule = RuleName::Deduct;
     let mut reports = Vec::new(heap);
-    let mut words = words.into_iter();
+    // not a `for`: an option takes the word after it
     while let Some(word) = words.next() {
         if word.as_str() == "--rule" {
-            let Some(name) = words.next() else {
-                return Err(DockFault::Unnamed(word));
-            };
-            rule = named(name)?;
+            rule = named(words.next().ok_or(DockFault::Unnamed(word))?)?;
         } else {
             reports.push(reported(word)?)?;
         }
@@ -53,8 +48,5 @@ fn read(heap: Global, words: Vec<String>) -> Result<Asked, DockFault> {
 
 /// The report of this word, or the fault that quotes it.
 fn reported(word: String) -> Result<Report, DockFault> {
-    match report(word.as_str()) {
-        Some(report) => Ok(report),
-        None => Err(DockFault::NoReport(word)),
-    }
+    report(word.as_str()).ok_or(DockFault::NoReport(word))
 }

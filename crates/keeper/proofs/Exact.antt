@@ -10,10 +10,10 @@ use Rattle.model.specs.Tangles.{tangled}
 use Rattle.model.proofs.Meets.{first_lowest}
 use Rattle.model.proofs.Tangles.{tangled_decides}
 use Rattle.timetable.specs.Found.{found_first}
-use Rattle.planner.specs.declared.hindrance.Hindrance.{Hindrance}
-use Rattle.planner.specs.declared.hindrance.Hindrance.TheVariants as hindrance
-use Rattle.planner.specs.Plans.{or_else, hindered}
-use Rattle.planner.proofs.Clears.{clear_of}
+use Rattle.timetable.specs.declared.forecast.hindrance.Hindrance.{Hindrance}
+use Rattle.timetable.specs.declared.forecast.hindrance.Hindrance.TheVariants as hindrance
+use Rattle.timetable.specs.Hindrances.{or_else, hindered}
+use Rattle.timetable.proofs.Hindrances.{clear_of}
 use Rattle.board.specs.declared.refusal.Refusal.{Refusal}
 use Rattle.board.specs.declared.refusal.Refusal.TheVariants.{ShortTable}
 use Rattle.sheet.specs.Rules.{Tables}

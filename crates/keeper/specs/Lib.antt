@@ -1,3 +1,5 @@
 pub mod Orders
+pub mod Lent
+pub mod Notes
 pub mod Asking
 pub mod Law

@@ -1,35 +1,40 @@
 -- Orders and answers as calls of the ledger.
 --
---   call_of     the call that an order asks for
+--   call_by     the call that an order asks for, by the two numbers of what a release is given
+--   call_of     the call that an order with slips asks for
 --   answered    the call that an answer answers
 --   wrote_plan, wrote_reserves    whether the tables of a plan, or of reserves, were written
 --   Answers     an answer is the one that the ledger gives, with what was written into the tables
-use Rattle.std.specs.Prelude.{◌≡◌, ℕ, Bool, true, false, List, length, is_ok, IfOk, OnOk}
+use Rattle.std.specs.Prelude.{◌≡◌, ℕ, Bool, false, List, length, is_ok, IfOk, OnOk}
 use Rattle.std.specs.Result.{result_err}
 use Rattle.tariff.specs.Prices.{Prices}
 use Rattle.planner.specs.Plans.{PlanIn, TollOfPlan}
 use Rattle.board.specs.Calls.{plan_room, plan_refusal, trial_room, trial_refusal, reserve_refusal, ReserveIn}
-use Rattle.board.specs.Ledger.{Ledger, Call, report, hold, release, strike, clear, trial, plan, reserve, step, yard_on, report_answer, hold_answer, strike_answer, clear_answer, holds}
+use Rattle.board.specs.Ledger.{Ledger, Call, report, hold, release, strike, clear, trial, plan, reserve, step, yard_on, report_answer, hold_answer, release_answer, strike_answer, clear_answer}
+use Rattle.board.specs.declared.slip.Slip.{Slip}
 use Rattle.keeper.specs.declared.order.Order.{Order}
 use Rattle.keeper.specs.declared.order.Order.TheVariants as order
 use Rattle.keeper.specs.declared.order.Answer.{Answer}
-use Rattle.keeper.specs.declared.order.Answer.TheVariants.{Reported, Held, Released, NotReleased, Struck, Cleared, Tried, Planned, Reserved}
+use Rattle.keeper.specs.declared.order.Answer.TheVariants.{Reported, Held, Released, Struck, Cleared, Tried, Planned, Reserved}
 
-abbrev pub call_of : {A : Type 0} → Order A → Call
-call_of (order.Report event minutes) = report event minutes
-call_of (order.Hold a) = hold a
-call_of (order.Release slip) = release slip.board slip.activity
-call_of (order.Strike a) = strike a
-call_of (order.Clear a) = clear a
-call_of (order.Trial a) = trial a
-call_of order.Plan = plan
-call_of (order.Reserve ask) = reserve
+-- by what an order's slip has
+abbrev pub call_by : {S A : Type 0} → (board activity : S → ℕ) → Order S A → Call
+call_by board activity (order.Report event minutes) = report event minutes
+call_by board activity (order.Hold a) = hold a
+call_by board activity (order.Release slip) = release (board slip) (activity slip)
+call_by board activity (order.Strike a) = strike a
+call_by board activity (order.Clear a) = clear a
+call_by board activity (order.Trial a) = trial a
+call_by board activity order.Plan = plan
+call_by board activity (order.Reserve ask) = reserve
+
+abbrev pub call_of : {A : Type 0} → Order Slip A → Call
+call_of o = call_by (λ (s : Slip). s.board) (λ (s : Slip). s.activity) o
 
 abbrev pub answered : {X : Type 0} → Answer X → Call
 answered (Reported event minutes r) = report event minutes
 answered (Held a r) = hold a
-answered (Released board a) = release board a
-answered (NotReleased n) = release n.slip.board n.slip.activity
+answered (Released board a r) = release board a
 answered (Struck a r) = strike a
 answered (Cleared a r) = clear a
 answered (Tried a r) = trial a
@@ -66,8 +71,7 @@ room_in l w = plan_room l.sheet w.worst_room w.cells_room w.late_room w.gone_roo
 abbrev pub Answers : {X : Type 0} → Prices X → (ℕ → ℕ → ℕ) → Ledger → TablesIn → Answer X → Type 0
 Answers p rule l w (Reported event minutes r) = r ≡ report_answer l event minutes
 Answers p rule l w (Held a r) = r ≡ hold_answer l a
-Answers p rule l w (Released board a) = holds l board a ≡ true
-Answers p rule l w (NotReleased n) = holds l n.slip.board n.slip.activity ≡ false
+Answers p rule l w (Released board a r) = r ≡ release_answer l (record { board = board; activity = a })
 Answers p rule l w (Struck a r) = r ≡ strike_answer l a
 Answers p rule l w (Cleared a r) = r ≡ clear_answer l a
 Answers p rule l w (Tried a r) =
@@ -83,8 +87,7 @@ abbrev pub wrote_plan : {X : Type 0} → Answer X → Bool
 wrote_plan (Planned r) = is_ok r
 wrote_plan (Reported event minutes r) = false
 wrote_plan (Held a r) = false
-wrote_plan (Released board a) = false
-wrote_plan (NotReleased n) = false
+wrote_plan (Released board a r) = false
 wrote_plan (Struck a r) = false
 wrote_plan (Cleared a r) = false
 wrote_plan (Tried a r) = false
@@ -94,8 +97,7 @@ abbrev pub wrote_reserves : {X : Type 0} → Answer X → Bool
 wrote_reserves (Reserved r) = is_ok r
 wrote_reserves (Reported event minutes r) = false
 wrote_reserves (Held a r) = false
-wrote_reserves (Released board a) = false
-wrote_reserves (NotReleased n) = false
+wrote_reserves (Released board a r) = false
 wrote_reserves (Struck a r) = false
 wrote_reserves (Cleared a r) = false
 wrote_reserves (Tried a r) = false

@@ -4,4 +4,5 @@
 pub mod order;
 pub mod perform;
 pub mod reserving;
+pub mod tables;
 pub mod tend;

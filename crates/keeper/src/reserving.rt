@@ -20,6 +20,7 @@ pub trait Reserving<R: Carry> {
         ensures { is_some result ≡ measures self.now };
 
     /// Writes each event's reserve, by the leave to ask for it; with no leave nothing is written, and there is no answer.
+    // an option of the leave, so that every call can be made: under a rule that is not measured nobody has one
     fn reserve(
         &self,
         ask: Option<Self::Ask>,
@@ -60,6 +61,7 @@ impl<R: Carry> Reserving<R> for Unmeasured {
     {
         match ask {
             None => None,
+            // a leave has no value here
             Some(leave) => match leave {},
         }
     }

@@ -3,14 +3,17 @@ ghost use Rattle.std.specs.Prelude.{◌≡◌, true, List, [], ◌∷◌, ◌++�
 ghost use Rattle.sheet.specs.Sheets.{tables_of};
 ghost use Rattle.board.specs.Ledger.{Call, ledger_of, yard_on};
 ghost use Rattle.board.specs.Calls.{for_events, ReserveLaw};
-ghost use Rattle.keeper.specs.Orders.{answered, tables_in};
+ghost use Rattle.keeper.specs.Orders.{answered};
+ghost use Rattle.keeper.specs.Lent.{SameTables, lent};
 ghost use Rattle.keeper.specs.Law.{Ran, KeeperLaw};
 
 use crate::order::{Answer, Order};
 use crate::perform::perform;
 use crate::reserving::Reserving;
+use crate::tables::Tables;
 use board::board::Board;
 use board::refusal::Refusal;
+use board::slip::Slip;
 use carry::rule::Carry;
 use sheet::sheet::Sheet;
 use tariff::charges::Tariff;
@@ -36,7 +39,7 @@ pub trait Keeper<X, A> {
     ghost done: { Self → Type 0 } = { λ _. Unit {0} };
 
     /// The next order, or none: it has had enough.
-    fn next(&mut self) -> Option<Order<A>>
+    fn next(&mut self) -> Option<Order<Slip, A>>
         ensures same { log self.new ≡ log self.old }
         ensures room { MatchOption result (done self.new) (λ _. ready self.new) };
 
@@ -70,34 +73,20 @@ pub fn tend<'a, R: Carry, T: Tariff, Q: Reserving<R>, K: Keeper<T::Toll, Q::Ask>
     rule: &R,
     tariff: &T,
     reserving: &Q,
-    worst: &mut [u16],
-    cells: &mut [T::Toll],
-    late: &mut [u16],
-    gone: &mut [u8],
-    reserves: &mut [u16],
+    tables: &mut Tables<'_, T::Toll>,
 ) -> (Board<'a>, Result<(T::Toll, usize), Refusal>)
-    ensures { (calls : List Call) × (Ran (K.log keeper.old) (K.log keeper.new) turns (K.done keeper.new) calls × KeeperLaw (T.prices tariff.now) (R.hands rule.now) (Q.measures reserving.now) (tables_of sheet.entry) number calls (ledger_of result.0) result.1 (tables_in worst.old cells.old late.old gone.old reserves.old late.new gone.new reserves.new)) }
+    ensures law { (calls : List Call) × (Ran (K.log keeper.old) (K.log keeper.new) turns (K.done keeper.new) calls × KeeperLaw (T.prices tariff.now) (R.hands rule.now) (Q.measures reserving.now) (tables_of sheet.entry) number calls (ledger_of result.0) result.1 (lent tables.old tables.new)) }
+    ensures same { SameTables tables.old tables.new }
 {
     let mut board = Board::open(sheet, number);
     for turn in 0..turns {
-        match keeper.next() {
-            Some(order) => {
-                let answer = perform(
-                    &mut board, order, rule, tariff, reserving, worst, cells, late, gone, reserves,
-                );
-                keeper.told(
-                    answer,
-                    Shown {
-                        late,
-                        gone,
-                        reserves,
-                    },
-                );
-            }
-            None => break,
-        }
+        let Some(order) = keeper.next() else {
+            break;
+        };
+        let answer = perform(&mut board, order, rule, tariff, reserving, tables);
+        keeper.told(answer, tables.shown());
     }
-    let plan = board.plan(rule, tariff, worst, cells, late, gone);
-    write_last(rule, reserving, &board, reserves);
+    let plan = tables.plan(&board, rule, tariff);
+    write_last(rule, reserving, &board, tables.reserves);
     (board, plan)
 }

@@ -1,31 +1,13 @@
 -- The lines of a listing, as bytes.
 --
---   side_word, kind_word, class_word    how a listing calls a side, a kind of activity, a class of lots
 --   period_line, event_line, activity_line, lot_line    the line of a record, without the line's end
 --   steps_words                         a lot's steps, a blank before each
 use Rattle.std.specs.Prelude.{ℕ, List, ◌++◌, codes, decimal}
-use Rattle.std.specs.List.{flat_map}
-use Rattle.sheet.specs.declared.records.Side.{Side}
-use Rattle.sheet.specs.declared.records.Side.TheVariants.{Arrival, Departure}
-use Rattle.sheet.specs.declared.records.Kind.{Kind}
-use Rattle.sheet.specs.declared.records.Kind.TheVariants.{Drive, Stand, Transfer}
 use Rattle.sheet.specs.declared.records.Class.{Class}
-use Rattle.sheet.specs.declared.records.Class.TheVariants.{Ordinary, Express}
 use Rattle.sheet.specs.declared.records.Event.{Event}
 use Rattle.sheet.specs.declared.records.Activity.{Activity}
-
-abbrev pub side_word : Side → List ℕ
-side_word Arrival = codes "arrival"
-side_word Departure = codes "departure"
-
-abbrev pub kind_word : Kind → List ℕ
-kind_word Drive = codes "drive"
-kind_word Stand = codes "stand"
-kind_word Transfer = codes "transfer"
-
-abbrev pub class_word : Class → List ℕ
-class_word Ordinary = codes "ordinary"
-class_word Express = codes "express"
+use Rattle.sheet.specs.Sorts.{side_word, kind_word, class_word}
+use Rattle.words.specs.Rows.{numbers_row}
 
 -- period 60
 abbrev pub period_line : ℕ → List ℕ
@@ -41,11 +23,8 @@ abbrev pub activity_line : Activity → List ℕ
 activity_line a =
     kind_word a.kind ++ (codes " " ++ (decimal a.tail ++ (codes " " ++ (decimal a.head ++ (codes " " ++ decimal a.margin)))))
 
-abbrev pub step_word : ℕ → List ℕ
-step_word step = codes " " ++ decimal step
-
 abbrev pub steps_words : List ℕ → List ℕ
-steps_words steps = flat_map step_word steps
+steps_words steps = numbers_row steps
 
 -- lot ordinary 20 0 2: the class, the parcels and the steps
 abbrev pub lot_line : Class → ℕ → List ℕ → List ℕ

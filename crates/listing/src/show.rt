@@ -1,10 +1,10 @@
 //! A sheet's whole listing.
-ghost use Rattle.std.specs.Prelude.{◌≡◌, ◌++◌, IfOk, string_bytes, OnOk};
+ghost use Rattle.std.specs.Prelude.{◌≡◌, ℕ, List, ◌++◌, All, Some, IfOk, string_bytes, OnOk};
+ghost use Rattle.std.specs.List.{flat_map};
 ghost use Rattle.sheet.specs.Sheets.{tables_of};
-ghost use Rattle.listing.specs.Listing.{events_lines, activities_lines, lots_lines, listing_of};
+ghost use Rattle.listing.specs.Listing.{ended, listing_of};
 
 use crate::lines::{ActivityLine, EventLine, LotLine, PeriodLine};
-use sheet::records::{Activity, Event};
 use sheet::sheet::Sheet;
 use std::alloc::Global;
 use std::fmt;
@@ -15,41 +15,33 @@ pub fn listing(heap: Global, sheet: &Sheet) -> Result<String, fmt::Error>
 {
     let mut text = String::new(heap);
     text.writeln(PeriodLine(sheet.period))?;
-    add_events(&mut text, sheet.events)?;
-    add_activities(&mut text, sheet.activities)?;
-    add_lots(&mut text, sheet)?;
+    add_lines(&mut text, sheet.events, EventLine)?;
+    add_lines(&mut text, sheet.activities, ActivityLine)?;
+    add_lines(
+        &mut text,
+        sheet.lots,
+        |lot| LotLine {
+            class: lot.class,
+            parcels: lot.parcels,
+            steps: lot.stretch(sheet.steps),
+        },
+    )?;
     Ok(text)
 }
 
-fn add_events(text: &mut String, events: &[Event]) -> fmt::Result
-    ensures { OnOk result (string_bytes text.new ≡ string_bytes text.old ++ events_lines events.now) }
+/// Adds a line for each record of a table.
+fn add_lines<R: Copy, L: fmt::Display + Drop, F: Fn(R) -> L>(
+    text: &mut String,
+    records: &[R],
+    line: F,
+) -> fmt::Result
+    ghost shown: { R → List ℕ }
+    requires can { All (λ r. F.pre line r) records.now }
+    requires lines { (r : R) (l : L) → F.post line r l → L.output l ≡ Some (shown r) }
+    ensures { OnOk result (string_bytes text.new ≡ string_bytes text.old ++ flat_map (λ r. ended (shown r)) records.now) }
 {
-    for event in events {
-        text.writeln(EventLine(*event))?;
-    }
-    Ok(())
-}
-
-fn add_activities(text: &mut String, activities: &[Activity]) -> fmt::Result
-    ensures { OnOk result (string_bytes text.new ≡ string_bytes text.old ++ activities_lines activities.now) }
-{
-    for activity in activities {
-        text.writeln(ActivityLine(*activity))?;
-    }
-    Ok(())
-}
-
-fn add_lots(text: &mut String, sheet: &Sheet) -> fmt::Result
-    ensures { OnOk result (string_bytes text.new ≡ string_bytes text.old ++ lots_lines (tables_of sheet.now)) }
-{
-    for (i, lot) in sheet.lots.iter().enumerate() {
-        if let Some(steps) = sheet.steps_of(i) {
-            text.writeln(LotLine {
-                class: lot.class,
-                parcels: lot.parcels,
-                steps,
-            })?;
-        }
+    for record in records {
+        text.writeln(line(*record))?;
     }
     Ok(())
 }

@@ -1,6 +1,6 @@
 -- A draft's numbers and their bytes.
 --
---   event_numbers, activity_numbers, lot_numbers    the numbers of a record
+--   lot_numbers      the numbers of a lot with its steps
 --   numbers_bytes    numbers as bytes, each number's high byte first
 --   part_bytes       a section of a draft: its count, then its numbers
 --   draft_bytes      the four sections, one after another
@@ -9,17 +9,9 @@
 use Rattle.std.specs.Prelude.{◌≡◌, ℕ, ◌+◌, List, [], ◌∷◌, ◌++◌, length, vec_items}
 use Rattle.std.specs.List.{flat_map}
 use Rattle.sheet.specs.declared.records.Class.{Class}
-use Rattle.sheet.specs.declared.records.Event.{Event}
-use Rattle.sheet.specs.declared.records.Activity.{Activity}
-use Rattle.sheet.specs.Bytes.{number_bytes, side_number, kind_number, class_number}
+use Rattle.sheet.specs.Bytes.{number_bytes, class_number}
 use Rattle.listing_read.specs.declared.draft.Section.{Section}
 use Rattle.listing_read.specs.declared.draft.Draft.{Draft}
-
-abbrev pub event_numbers : Event → List ℕ
-event_numbers e = e.truck ∷ e.site ∷ side_number e.side ∷ e.tolerance ∷ []
-
-abbrev pub activity_numbers : Activity → List ℕ
-activity_numbers a = kind_number a.kind ∷ a.tail ∷ a.head ∷ a.margin ∷ []
 
 -- a lot's class, parcels and step count, then its steps
 abbrev pub lot_numbers : Class → ℕ → List ℕ → List ℕ

@@ -1,47 +1,30 @@
 -- What the words of a listing's lines say.
 --
 --   same         two words are the same
---   value_of     the number that digits write
---   number_of    the number of a word: a decimal of at most 65,535
+--   number_of    the number of a word: a decimal of at most 65,535, as words has it
 --   side_of, class_of    the side or the class that a word names
 --   word_at      the bytes of one of a line's words
 --   period_of, event_of, activity_of    what the words after a line's first word say
-use Rattle.std.specs.Prelude.{ℕ, ◌+◌, ◌-◌, ◌*◌, Bool, true, false, cond, ◌&&◌, List, [], ◌∷◌, map, length, Some, None, codes, Option, ◌==◌, nat_lt, slice_index_or}
+use Rattle.std.specs.Prelude.{ℕ, Bool, cond, List, [], map, length, Some, None, Option, ◌==◌, slice_index_or}
 use Rattle.std.specs.Borrow.{Bor}
-use Rattle.std.specs.Str.{all_ascii_digits}
+use Rattle.std.specs.Str.{bytes_eq}
 use Rattle.sheet.specs.declared.records.Kind.{Kind}
 use Rattle.sheet.specs.declared.records.Event.{Event}
 use Rattle.sheet.specs.declared.records.Activity.{Activity}
 use Rattle.sheet.specs.declared.records.Side.{Side}
-use Rattle.sheet.specs.declared.records.Side.TheVariants.{Arrival, Departure}
 use Rattle.sheet.specs.declared.records.Class.{Class}
-use Rattle.sheet.specs.declared.records.Class.TheVariants.{Ordinary, Express}
+use Rattle.sheet.specs.Sorts.{side_called, class_called}
+pub use Rattle.words.specs.Numbers.{number_of}
 
 -- two words are the same
 abbrev pub same : List ℕ → List ℕ → Bool
-same [] [] = true
-same [] (d ∷ ds) = false
-same (c ∷ cs) [] = false
-same (c ∷ cs) (d ∷ ds) = c == d && same cs ds
-
-abbrev pub value_on : ℕ → List ℕ → ℕ
-value_on n [] = n
-value_on n (c ∷ cs) = value_on (10 * n + (c - 48)) cs
-
-abbrev pub value_of : List ℕ → ℕ
-value_of word = value_on 0 word
-
-abbrev pub is_number : List ℕ → Bool
-is_number word = nat_lt 0 (length word) && (all_ascii_digits word && nat_lt (value_of word) 65536)
-
-abbrev pub number_of : List ℕ → Option ℕ
-number_of word = cond (is_number word) (Some (value_of word)) None
+same = bytes_eq
 
 abbrev pub side_of : List ℕ → Option Side
-side_of word = cond (same word (codes "arrival")) (Some Arrival) (cond (same word (codes "departure")) (Some Departure) None)
+side_of word = side_called word
 
 abbrev pub class_of : List ℕ → Option Class
-class_of word = cond (same word (codes "ordinary")) (Some Ordinary) (cond (same word (codes "express")) (Some Express) None)
+class_of word = class_called word
 
 abbrev pub word_at : List (Bor (List ℕ)) → ℕ → List ℕ
 word_at words i = slice_index_or (map (λ x. x.now) words) i []

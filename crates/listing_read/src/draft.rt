@@ -1,10 +1,9 @@
 //! A draft of a sheet: its numbers, section by section, which need keep no rule as yet.
-ghost use Rattle.std.specs.Prelude.{◌≡◌, [], ◌∷◌, ◌++◌, length, IfOk, OnOk};
-ghost use Rattle.sheet.specs.Bytes.{number_bytes, side_number, kind_number, class_number};
-ghost use Rattle.listing_read.specs.Numbers.{Added, Empty, event_numbers, activity_numbers, lot_numbers, numbers_bytes, part_bytes, draft_bytes};
+ghost use Rattle.std.specs.Prelude.{◌≡◌, ◌++◌, IfOk, OnOk};
+ghost use Rattle.listing_read.specs.Numbers.{Added, Empty, lot_numbers, numbers_bytes, part_bytes, draft_bytes};
 
 use crate::fault::DraftFault;
-use sheet::records::{Activity, Class, Event, Kind, Side};
+use sheet::records::Class;
 use std::alloc::{AllocError, Global};
 
 /// How many records a section has, and the numbers of all of them in a row.
@@ -23,34 +22,6 @@ pub struct Draft {
     pub(crate) lots: Section,
 }
 
-fn side_number(side: Side) -> u16
-    ensures { result ≡ side_number side }
-{
-    match side {
-        Side::Arrival => 0,
-        Side::Departure => 1,
-    }
-}
-
-fn kind_number(kind: Kind) -> u16
-    ensures { result ≡ kind_number kind }
-{
-    match kind {
-        Kind::Drive => 0,
-        Kind::Stand => 1,
-        Kind::Transfer => 2,
-    }
-}
-
-fn class_number(class: Class) -> u16
-    ensures { result ≡ class_number class }
-{
-    match class {
-        Class::Ordinary => 0,
-        Class::Express => 1,
-    }
-}
-
 impl Section {
     fn new(heap: Global) -> Section
         ensures { Empty result }
@@ -62,64 +33,34 @@ impl Section {
     }
 
     /// Adds one record, of these numbers.
-    fn add(&mut self, numbers: &[u16]) -> Result<(), DraftFault>
+    pub(crate) fn add(&mut self, numbers: &[u16]) -> Result<(), DraftFault>
         ensures { OnOk result (Added self.old numbers.now self.new) }
     {
-        if self.count == u16::MAX {
-            return Err(DraftFault::Records);
-        }
-        self.numbers.extend_from_slice(numbers)?;
-        self.count += 1;
-        Ok(())
-    }
-
-    /// Adds a period.
-    pub(crate) fn add_period(&mut self, period: u16) -> Result<(), DraftFault>
-        ensures { OnOk result (Added self.old (period ∷ []) self.new) }
-    {
-        self.add(&[period])
-    }
-
-    /// Adds an event.
-    pub(crate) fn add_event(&mut self, event: Event) -> Result<(), DraftFault>
-        ensures { OnOk result (Added self.old (event_numbers event) self.new) }
-    {
-        self.add(&[
-            event.truck,
-            event.site,
-            side_number(event.side),
-            event.tolerance,
-        ])
-    }
-
-    /// Adds an activity.
-    pub(crate) fn add_activity(&mut self, activity: Activity) -> Result<(), DraftFault>
-        ensures { OnOk result (Added self.old (activity_numbers activity) self.new) }
-    {
-        self.add(&[
-            kind_number(activity.kind),
-            activity.tail,
-            activity.head,
-            activity.margin,
-        ])
+        self.add_both(numbers, &[])
     }
 
     /// Adds a lot with its steps.
     pub(crate) fn add_lot(
         &mut self,
-        heap: Global,
         class: Class,
         parcels: u16,
         steps: &[u16],
     ) -> Result<(), DraftFault>
         ensures { OnOk result (Added self.old (lot_numbers class parcels steps.now) self.new) }
     {
-        let Ok(count) = u16::try_from(steps.len()) else {
-            return Err(DraftFault::Steps);
-        };
-        let mut numbers = Vec::from_slice(heap, &[class_number(class), parcels, count])?;
-        numbers.extend_from_slice(steps)?;
-        self.add(numbers.as_slice())
+        let count = u16::try_from(steps.len()).map_err(|_| DraftFault::Steps)?;
+        self.add_both(&[class.into(), parcels, count], steps)
+    }
+
+    /// Adds one record, of these numbers and then those; where memory gives out, the draft is no longer of use.
+    fn add_both(&mut self, these: &[u16], those: &[u16]) -> Result<(), DraftFault>
+        ensures { OnOk result (Added self.old (these.now ++ those.now) self.new) }
+    {
+        let count = self.count.checked_add(1).ok_or(DraftFault::Records)?;
+        self.numbers.extend_from_slice(these)?;
+        self.numbers.extend_from_slice(those)?;
+        self.count = count;
+        Ok(())
     }
 
     /// Adds the section's bytes to those of the sections before it.
@@ -127,8 +68,7 @@ impl Section {
         ensures { OnOk result (bytes.new.items ≡ bytes.old.items ++ part_bytes self.now) }
     {
         add_numbers(bytes, &[self.count])?;
-        add_numbers(bytes, self.numbers.as_slice())?;
-        Ok(())
+        add_numbers(bytes, self.numbers.as_slice())
     }
 }
 

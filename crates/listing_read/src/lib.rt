@@ -3,5 +3,5 @@
 
 pub mod draft;
 pub mod fault;
+mod fields;
 pub mod read;
-mod words;

@@ -1,11 +1,11 @@
 //! Reading a listing: its lines become a draft of a sheet, or the first line that cannot be read is named.
-ghost use Rattle.std.specs.Prelude.{◌≡◌, IfErr, IsUtf8, OnOk};
+ghost use Rattle.std.specs.Prelude.{◌≡◌, ◌+◌, ◌==◌, count_by, IfErr, IsUtf8, OnOk};
 ghost use Rattle.listing_read.specs.declared.fault.Wrong.TheVariants.{NoText};
 
 use crate::draft::Draft;
 use crate::fault::{ListingFault, Wrong};
-use crate::words::{read_activity, read_class, read_event, read_number, read_period, read_steps};
-use sheet::records::Kind;
+use crate::fields::{read_activity, read_class, read_event, read_number, read_period, read_steps};
+use sheet::records::Numbered;
 use std::alloc::Global;
 
 /// The draft that a listing's lines make.
@@ -13,37 +13,28 @@ pub fn read_listing(heap: Global, bytes: &[u8]) -> Result<Draft, ListingFault<'_
     ensures text { OnOk result (IsUtf8 bytes.now) }
     ensures no_text { (IsUtf8 bytes.now → ⊥) → IfErr result (λ fault. fault.wrong ≡ NoText) }
 {
-    match std::str::from_utf8(bytes) {
-        Ok(text) => read_lines(heap, text),
-        Err(error) => Err(ListingFault {
-            line: line_of(bytes, error.valid_up_to()),
-            wrong: Wrong::NoText,
-        }),
-    }
+    let text = std::str::from_utf8(bytes).map_err(|error| ListingFault {
+        line: line_of(&bytes[..error.valid_up_to()]),
+        wrong: Wrong::NoText,
+    })?;
+    read_lines(heap, text)
 }
 
 fn read_lines(heap: Global, text: &str) -> Result<Draft, ListingFault<'_>> {
     let mut draft = Draft::new(heap);
     for (i, line) in text.lines().enumerate() {
-        if let Err(wrong) = draft.read_line(heap, line) {
-            return Err(ListingFault {
-                line: i.saturating_add(1),
-                wrong,
-            });
-        }
+        draft
+            .read_line(heap, line)
+            .map_err(|wrong| ListingFault { line: i + 1, wrong })?;
     }
     Ok(draft)
 }
 
-/// The number of the line, counted from 1, in which a byte stands.
-fn line_of(bytes: &[u8], place: usize) -> usize {
-    let mut line = 1usize;
-    for byte in bytes.iter().take(place) {
-        if *byte == b'\n' {
-            line = line.saturating_add(1);
-        }
-    }
-    line
+/// The number of the line, counted from 1, that these bytes come to.
+fn line_of(before: &[u8]) -> usize
+    ensures { result ≡ count_by (λ b. b == 10) before.now + 1 }
+{
+    before.iter().filter(|byte| **byte == b'\n').count() + 1
 }
 
 impl Draft {
@@ -66,19 +57,14 @@ impl Draft {
         rest: &[&'a str],
     ) -> Result<(), Wrong<'a>> {
         match first {
-            "period" => self.terms.add_period(read_period(rest)?)?,
-            "event" => self.events.add_event(read_event(rest)?)?,
-            "drive" => self
-                .activities
-                .add_activity(read_activity(Kind::Drive, rest)?)?,
-            "stand" => self
-                .activities
-                .add_activity(read_activity(Kind::Stand, rest)?)?,
-            "transfer" => self
-                .activities
-                .add_activity(read_activity(Kind::Transfer, rest)?)?,
+            "period" => self.terms.add(&[read_period(rest)?])?,
+            "event" => self.events.add(&read_event(rest)?.numbers())?,
             "lot" => self.read_lot(heap, rest)?,
-            _ => return Err(Wrong::NoLine(first)),
+            _ => {
+                let kind = first.parse().map_err(|_| Wrong::NoLine(first))?;
+                let activity = read_activity(kind, rest)?;
+                self.activities.add(&activity.numbers())?;
+            }
         }
         Ok(())
     }
@@ -90,7 +76,7 @@ impl Draft {
         let class = read_class(class)?;
         let parcels = read_number(parcels)?;
         let steps = read_steps(heap, steps)?;
-        self.lots.add_lot(heap, class, parcels, steps.as_slice())?;
+        self.lots.add_lot(class, parcels, steps.as_slice())?;
         Ok(())
     }
 }

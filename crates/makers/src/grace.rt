@@ -9,7 +9,7 @@ use tariff::charges::Tariff;
 use tariff::parcel_minutes::parcel_minutes;
 
 /// Charges parcels × the minutes past the free ones; a missed lot pays for every minute.
-#[derive(Clone, Copy)]
+#[derive(Clone, Copy, PartialEq, Eq, Debug)]
 pub struct Grace {
     pub free: u16,
 }

@@ -5,7 +5,7 @@ ghost use Rattle.std.proofs.Common.{rules};
 use carry::rule::{Carry, LONGEST, Measured};
 
 /// Hands on the lateness less the margin, and never more than `most` minutes.
-#[derive(Clone, Copy)]
+#[derive(Clone, Copy, PartialEq, Eq, Debug)]
 pub struct Relief {
     pub most: u16,
 }

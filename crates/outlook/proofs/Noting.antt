@@ -1,7 +1,7 @@
 -- Reports one after another: the first at fault, and what is noted so far.
-use Rattle.std.proofs.Common.{◌≡◌, ℕ, zero, suc, ◌+◌, ◌<◌, ◌≤◌, Bool, true, false, cond, ◌||◌, eqb, ltb, leb, ◌⊎◌, List, [], ◌∷◌, length, get_or, drop, set, is_some, Some, None, Option, sym, refl, ap, ◌∙◌, inl, inr, arith, get_or-set_other, get_or-set_same}
+use Rattle.std.proofs.Common.{◌≡◌, ℕ, zero, suc, ◌+◌, ◌<◌, ◌≤◌, Bool, true, false, cond, ◌||◌, eqb, ltb, leb, ◌⊎◌, List, [], ◌∷◌, length, get_or, drop, set, Some, None, Option, sym, refl, ap, ◌∙◌, inl, inr, arith, get_or-set_other, get_or-set_same}
 use Rattle.std.proofs.lemmas.List.{drop_more, drop_all}
-use Rattle.std.proofs.lemmas.Bool.{both_ways, eq-eqb, ne_eqb, cases_eq, lt-ltb, le-ltb, ltb-false, leb-false, or_left, or_right, or_from, or_parts, cond-true, cond-false}
+use Rattle.std.proofs.lemmas.Bool.{eq-eqb, ne_eqb, cases_eq, lt-ltb, le-ltb, ltb-false, leb-false, or_left, or_right, or_from, or_parts, cond-true, cond-false}
 use Rattle.sheet.specs.Rules.{Tables}
 use Rattle.outlook.specs.declared.answer.OutlookFault.{OutlookFault}
 use Rattle.outlook.specs.declared.answer.OutlookFault.TheVariants.{NoEvent, TooLong, ShortTable}
@@ -9,28 +9,20 @@ use Rattle.outlook.specs.declared.report.Report.{Report}
 use Rattle.outlook.specs.Reports.{no_report, fault_in, or_else, first_fault, renoted, noted_after}
 use Rattle.outlook.specs.Outlook.{short_in, refusal_in}
 
-nothing : {A : Type 0} (o x : Option A) → is_some o ≡ false → or_else o x ≡ x
-nothing (Some y) x h = absurd (both_ways true h refl)
-nothing None x h = refl
-
-something : {A : Type 0} (o x : Option A) → is_some o ≡ true → o ≡ or_else o x
-something (Some y) x h = refl
-something None x h = absurd (both_ways false refl h)
-
 -- the fault of the reports from i on, by report i and the later ones
 fault_from : (t : Tables) (rs : List Report) (i : ℕ) → i < length rs → first_fault t (drop i rs) ≡ or_else (fault_in t (get_or rs i no_report)) (first_fault t (drop (i + 1) rs))
 unfolding first_fault
 fault_from t rs i h = ap (first_fault t) (drop_more rs i no_report h)
 
-module _ (t : Tables) (rs : List Report) (i : ℕ) (o : Option OutlookFault) (h : i < length rs) (is : o ≡ fault_in t (get_or rs i no_report)) (so : first_fault t rs ≡ first_fault t (drop i rs)) where
-  rest : or_else (fault_in t (get_or rs i no_report)) (first_fault t (drop (i + 1) rs)) ≡ or_else o (first_fault t (drop (i + 1) rs))
-  rest = ap (λ (x : Option OutlookFault). or_else x (first_fault t (drop (i + 1) rs))) (sym is)
+module _ (t : Tables) (rs : List Report) (i : ℕ) (h : i < length rs) (so : first_fault t rs ≡ first_fault t (drop i rs)) where
+  by_report : (o : Option OutlookFault) → o ≡ fault_in t (get_or rs i no_report) → or_else o (first_fault t (drop (i + 1) rs)) ≡ first_fault t rs
+  by_report o is = ap (λ (x : Option OutlookFault). or_else x (first_fault t (drop (i + 1) rs))) is ∙ sym (so ∙ fault_from t rs i h)
 
-  pub fault_here : is_some o ≡ true → o ≡ first_fault t rs
-  fault_here s = sym (so ∙ fault_from t rs i h ∙ rest ∙ sym (something o (first_fault t (drop (i + 1) rs)) s))
+  pub fault_here : (fault : OutlookFault) → Some fault ≡ fault_in t (get_or rs i no_report) → Some fault ≡ first_fault t rs
+  fault_here fault is = by_report (Some fault) is
 
-  pub fault_later : is_some o ≡ false → first_fault t rs ≡ first_fault t (drop (i + 1) rs)
-  fault_later s = so ∙ fault_from t rs i h ∙ rest ∙ nothing o (first_fault t (drop (i + 1) rs)) s
+  pub fault_later : None ≡ fault_in t (get_or rs i no_report) → first_fault t rs ≡ first_fault t (drop (i + 1) rs)
+  fault_later is = sym (by_report None is)
 
 pub no_fault : (t : Tables) (rs : List Report) (i : ℕ) → length rs ≤ i → first_fault t rs ≡ first_fault t (drop i rs) → None ≡ first_fault t rs
 unfolding first_fault
@@ -62,28 +54,25 @@ noted_all rs i e x h = sym (ap (noted_after e x) (drop_all i rs h))
 
 -- ---- why there is no outlook
 
-module _ (t : Tables) (rs : List Report) (late_cells live_cells : ℕ) (o : Option OutlookFault) (is : o ≡ first_fault t rs) where
-  begun : or_else o (short_in t late_cells live_cells) ≡ refusal_in t rs late_cells live_cells
-  begun = ap (λ (x : Option OutlookFault). or_else x (short_in t late_cells live_cells)) is
+module _ (t : Tables) (rs : List Report) (late_cells live_cells : ℕ) where
+  by_reports : (o : Option OutlookFault) → o ≡ first_fault t rs → or_else o (short_in t late_cells live_cells) ≡ refusal_in t rs late_cells live_cells
+  by_reports o is = ap (λ (x : Option OutlookFault). or_else x (short_in t late_cells live_cells)) is
 
-  pub refused_first : is_some o ≡ true → o ≡ refusal_in t rs late_cells live_cells
-  refused_first s = something o (short_in t late_cells live_cells) s ∙ begun
+  pub refused_first : (fault : OutlookFault) → Some fault ≡ first_fault t rs → Some fault ≡ refusal_in t rs late_cells live_cells
+  refused_first fault is = by_reports (Some fault) is
 
-  at_last : is_some o ≡ false → short_in t late_cells live_cells ≡ refusal_in t rs late_cells live_cells
-  at_last s = sym (nothing o (short_in t late_cells live_cells) s) ∙ begun
-
-  pub refused_short : is_some o ≡ false → (late_cells < length t.events) ⊎ (live_cells < length t.activities) → Some ShortTable ≡ refusal_in t rs late_cells live_cells
-  refused_short s w = sym (cond-true (ltb late_cells (length t.events) || ltb live_cells (length t.activities)) (Some ShortTable) None (go w)) ∙ at_last s
+  pub refused_short : None ≡ first_fault t rs → (late_cells < length t.events) ⊎ (live_cells < length t.activities) → Some ShortTable ≡ refusal_in t rs late_cells live_cells
+  refused_short is w = sym (cond-true (ltb late_cells (length t.events) || ltb live_cells (length t.activities)) (Some ShortTable) None (go w)) ∙ by_reports None is
     where
       go : (late_cells < length t.events) ⊎ (live_cells < length t.activities) → (ltb late_cells (length t.events) || ltb live_cells (length t.activities)) ≡ true
       go (inl h) = or_left (ltb late_cells (length t.events)) _ (lt-ltb late_cells (length t.events) h)
       go (inr h) = or_right (ltb late_cells (length t.events)) _ (lt-ltb live_cells (length t.activities) h)
 
-  pub refused_not : is_some o ≡ false → length t.events ≤ late_cells → length t.activities ≤ live_cells → None ≡ refusal_in t rs late_cells live_cells
-  refused_not s x y =
+  pub refused_not : None ≡ first_fault t rs → length t.events ≤ late_cells → length t.activities ≤ live_cells → None ≡ refusal_in t rs late_cells live_cells
+  refused_not is x y =
       sym (cond-false (ltb late_cells (length t.events) || ltb live_cells (length t.activities)) (Some ShortTable) None
       (or_from _ _ (le-ltb late_cells (length t.events) x) (le-ltb live_cells (length t.activities) y)))
-      ∙ at_last s
+      ∙ by_reports None is
 
 -- ---- what follows where there is one
 

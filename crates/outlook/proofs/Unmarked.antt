@@ -1,18 +1,16 @@
 -- A day with the reported delays and no mark: what is known of it, and the yard that it is.
-use Rattle.std.proofs.Common.{◌≡◌, ℕ, zero, suc, ◌≤◌, true, ◌||◌, ltb, leb, List, length, get_or, replicate, Some, None, Option, refl, ap, ◌∙◌, ap₂, arith}
+use Rattle.std.proofs.Common.{◌≡◌, ℕ, zero, suc, ◌≤◌, true, leb, List, length, get_or, replicate, None, refl, ap, ◌∙◌, ap₂, arith}
 use mathlib.Core.Path.{fun_ext}
 use lib.ListN.{length-replicate}
-use Rattle.std.proofs.lemmas.Bool.{and_parts, leb-true, le-ltb, or_from, cond-false}
+use Rattle.std.proofs.lemmas.Bool.{and_parts, leb-true}
 use Rattle.sheet.specs.Rules.{Tables, well_formed, between}
 use Rattle.sheet.proofs.Stretches.{kept_of}
 use Rattle.model.specs.Laws.{yard}
 use Rattle.timetable.specs.declared.day.MarkRecord.{MarkRecord}
-use Rattle.timetable.specs.declared.day.Trial.TheVariants.{Idle}
 use Rattle.timetable.specs.Days.{no_mark, mark_on, delay_on}
-use Rattle.outlook.specs.declared.answer.OutlookFault.TheVariants.{ShortTable}
 use Rattle.outlook.specs.declared.report.Report.{Report}
-use Rattle.outlook.specs.Reports.{first_fault, or_else, noted_after, noted_delay}
-use Rattle.outlook.specs.Outlook.{ahead, unmarked_all, refusal_in}
+use Rattle.outlook.specs.Reports.{first_fault, noted_after, noted_delay}
+use Rattle.outlook.specs.Outlook.{ahead, unmarked_all}
 use Rattle.outlook.proofs.Noting.{all_sound, noted_short}
 
 -- every cell of a blank table is blank, and so is what stands past its end
@@ -43,17 +41,9 @@ pub delays_short : (t : Tables) (delays : List ℕ) (rs : List Report) → first
 delays_short t delays rs h n e = let s = noted_short t rs e 0 (omega arith) (all_sound t rs h) in omega (arith, s, noted_so delays rs n e)
 
 pub yard_ahead : (rule : ℕ → ℕ → ℕ) (t : Tables) (delays : List ℕ) (marks : List MarkRecord) (rs : List Report) → NotedIn delays rs → marks ≡ replicate 1024 no_mark
-    → yard t rule (delay_on delays) (mark_on marks Idle) ≡ ahead rule t rs
+    → yard t rule (delay_on delays) (mark_on marks None) ≡ ahead rule t rs
 yard_ahead rule t delays marks rs n m =
     ap₂ (yard t rule) (fun_ext (noted_so delays rs n)) (fun_ext bare)
   where
-    bare : (a : ℕ) → mark_on marks Idle a ≡ unmarked_all a
+    bare : (a : ℕ) → mark_on marks None a ≡ unmarked_all a
     bare a = ap (λ (ms : List MarkRecord). (get_or ms a no_mark).mark) m ∙ ap (λ (r : MarkRecord). r.mark) (blank 1024 a no_mark)
-
-or_nothing : {A : Type 0} (o : Option A) → or_else o None ≡ o
-or_nothing None = refl
-or_nothing (Some x) = refl
-
--- where there is room for the largest sheet, only a report can be refused
-pub roomy : (t : Tables) (rs : List Report) → well_formed t ≡ true → refusal_in t rs 512 1024 ≡ first_fault t rs
-roomy t rs h = ap (or_else (first_fault t rs)) (cond-false (ltb 512 (length t.events) || ltb 1024 (length t.activities)) (Some ShortTable) None (or_from _ _ (le-ltb 512 (length t.events) (few t h).0) (le-ltb 1024 (length t.activities) (few t h).1))) ∙ or_nothing (first_fault t rs)

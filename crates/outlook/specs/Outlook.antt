@@ -2,8 +2,7 @@
 --
 --   refusal_in    why there is no outlook, if there is none: the first report at fault, then a table too short
 --   ahead         the yard of a sheet under a rule, with the reported delays and with no transfer marked
---   judged        the verdict by the first event where delays meet and the first tangled lot
---   verdict_of    the verdict on a yard
+--   verdict_of    the verdict on a yard: the first event where delays meet, or else the first tangled lot, or else nothing
 --   Filled        a table whose front holds a function's values, and whose further cells are as they were
 --   ShowsWorst    a table is filled with a yard's worst timetable; ShowsLive: with whether each activity is live
 use Rattle.std.specs.Prelude.{◌≡◌, ℕ, ◌<◌, ◌≤◌, Bool, false, cond, ◌||◌, List, length, Some, None, Option, nat_lt, slice_index_or}
@@ -12,12 +11,10 @@ use Rattle.model.specs.declared.mark.Mark.{Mark}
 use Rattle.model.specs.declared.mark.Mark.TheVariants.{Unmarked}
 use Rattle.model.specs.Yard.{Yard}
 use Rattle.model.specs.Lateness.{worst}
-use Rattle.model.specs.Meeting.{live, meets}
-use Rattle.model.specs.Tangles.{tangled}
+use Rattle.model.specs.Meeting.{live}
 use Rattle.model.specs.Laws.{yard}
-use Rattle.timetable.specs.Found.{found_first}
+use Rattle.timetable.specs.Hindrances.{hindered}
 use Rattle.outlook.specs.declared.answer.Verdict.{Verdict}
-use Rattle.outlook.specs.declared.answer.Verdict.TheVariants.{Meet, Tangled, Clear}
 use Rattle.outlook.specs.declared.answer.OutlookFault.{OutlookFault}
 use Rattle.outlook.specs.declared.answer.OutlookFault.TheVariants.{ShortTable}
 use Rattle.outlook.specs.declared.report.Report.{Report}
@@ -36,14 +33,8 @@ unmarked_all a = Unmarked
 abbrev pub ahead : (ℕ → ℕ → ℕ) → Tables → List Report → Yard
 ahead rule t reports = yard t rule (noted_delay reports) unmarked_all
 
--- meeting is tested first
-abbrev pub judged : Option ℕ → Option ℕ → Verdict
-judged (Some event) lot = Meet event
-judged None (Some lot) = Tangled lot
-judged None None = Clear
-
 abbrev pub verdict_of : Yard → Verdict
-verdict_of g = judged (found_first (length g.sheet.events) (meets g)) (found_first (length g.sheet.lots) (tangled g))
+verdict_of g = record { 0 = hindered g }
 
 pub record Filled {A : Type 0} (none : A) (n : ℕ) (value : ℕ → A) (before after : List A) : Type 0 where
   pub cells : (k : ℕ) → k < n → slice_index_or after k none ≡ value k

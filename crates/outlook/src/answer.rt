@@ -3,20 +3,15 @@ ghost use Rattle.std.specs.Prelude.{◌≡◌, Some};
 ghost use Rattle.outlook.specs.Answers.{refusal_number, refusal_text, verdict_text};
 
 use std::fmt;
+use timetable::forecast::hindrance::Hindrance;
 
-/// Whether the delays can be planned for.
-#[derive(Clone, Copy)]
-pub enum Verdict {
-    /// Delays meet, and this is the first event where they do.
-    Meet(usize),
-    /// Delays meet nowhere, and this is the first tangled lot.
-    Tangled(usize),
-    /// Delays meet nowhere, and no lot is tangled.
-    Clear,
-}
+/// Whether the delays can be planned for: what stands in the way, if anything does.
+#[derive(Clone, Copy, PartialEq, Eq, Debug)]
+pub struct Verdict(pub Option<Hindrance>);
 
 /// Why there is no outlook.
-#[derive(Clone, Copy)]
+// apart from a board's refusals: an outlook is refused for these three and for no other
+#[derive(Clone, Copy, PartialEq, Eq, Debug)]
 pub enum OutlookFault {
     /// A report is of an event that the sheet does not have.
     NoEvent,
@@ -52,10 +47,10 @@ impl fmt::Display for Verdict {
     ghost output = { λ verdict. Some (verdict_text verdict) };
 
     fn fmt<W: fmt::Write>(&self, f: &mut fmt::Formatter<W>) -> fmt::Result {
-        match *self {
-            Verdict::Meet(event) => write!(f, "meet {event}"),
-            Verdict::Tangled(lot) => write!(f, "tangled {lot}"),
-            Verdict::Clear => write!(f, "clear"),
+        match self.0 {
+            Some(Hindrance::Meeting(event)) => write!(f, "meet {event}"),
+            Some(Hindrance::Tangle(lot)) => write!(f, "tangled {lot}"),
+            None => write!(f, "clear"),
         }
     }
 }

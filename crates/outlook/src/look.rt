@@ -6,19 +6,21 @@ ghost use Rattle.timetable.specs.Days.{no_mark};
 ghost use Rattle.outlook.specs.Outlook.{ShowsWorst, ShowsLive, refusal_in, ahead, verdict_of};
 
 use crate::answer::{OutlookFault, Verdict};
-use crate::note::{note, refusal};
+use crate::note::{check_call, note};
 use crate::report::Report;
 use crate::survey::survey;
 use carry::rule::Carry;
 use model::mark::Mark;
 use sheet::sheet::Sheet;
-use timetable::day::{Day, MarkRecord, Trial};
+use timetable::day::{Day, MarkRecord};
 
+// of a fixed size: an outlook holds no heap
 /// No mark on any of the activities that a sheet can have.
 static UNMARKED: [MarkRecord; 1024] = [MarkRecord {
     mark: Mark::Unmarked,
 }; 1024];
 
+/// Marks for the largest sheet, none of which is set.
 fn unmarked() -> &'static [MarkRecord]
     ensures { result.now ≡ replicate 1024 no_mark }
 {
@@ -38,17 +40,14 @@ fn foresee<R: Carry>(
     ensures late { ShowsWorst (ahead (R.hands rule.now) (tables_of sheet.now) reports.now) late.old late.new }
     ensures live { ShowsLive (ahead (R.hands rule.now) (tables_of sheet.now) reports.now) lives.old lives.new }
 {
+    // of a fixed size: an outlook holds no heap
     let mut delays = [0u16; 512];
     note(reports, &mut delays);
     let day = Day {
-        period: sheet.period,
-        events: sheet.events,
-        activities: sheet.activities,
-        lots: sheet.lots,
-        steps: sheet.steps,
+        sheet: *sheet,
         delays: &delays,
         marks: unmarked(),
-        trial: Trial::Idle,
+        trial: None,
     };
     survey(rule, day, late, lives)
 }
@@ -68,8 +67,6 @@ pub fn look_ahead<R: Carry>(
     ensures live { OnOk result (ShowsLive (ahead (R.hands rule.now) (tables_of sheet.now) reports.now) lives.old lives.new) }
     ensures kept { OnErr result ((late.new ≡ late.old) × (lives.new ≡ lives.old)) }
 {
-    match refusal(sheet, reports, late.len(), lives.len()) {
-        Some(fault) => Err(fault),
-        None => Ok(foresee(rule, sheet, reports, late, lives)),
-    }
+    check_call(sheet, reports, late.len(), lives.len())?;
+    Ok(foresee(rule, sheet, reports, late, lives))
 }

@@ -1,5 +1,6 @@
 //! Reports tested, and noted.
 ghost use Rattle.std.specs.Prelude.{◌≡◌, ℕ, ◌<◌, length, slice_index, slice_index_or};
+ghost use Rattle.std.specs.Result.{result_err};
 ghost use Rattle.sheet.specs.Sheets.{tables_of};
 ghost use Rattle.outlook.specs.Reports.{no_report, fault_in, first_fault, noted_after};
 ghost use Rattle.outlook.specs.Outlook.{refusal_in};
@@ -8,49 +9,43 @@ use crate::answer::OutlookFault;
 use crate::report::Report;
 use sheet::sheet::Sheet;
 
-/// What is wrong with a report, its event before its minutes.
-fn fault_in(sheet: &Sheet, report: Report) -> Option<OutlookFault>
-    ensures { result ≡ fault_in (tables_of sheet.now) report }
+/// Tests a report, its event before its minutes.
+fn check_report(sheet: &Sheet, report: Report) -> Result<(), OutlookFault>
+    ensures { result_err result ≡ fault_in (tables_of sheet.now) report }
 {
     if usize::from(report.event) >= sheet.events.len() {
-        Some(OutlookFault::NoEvent)
-    } else if report.minutes > sheet.period {
-        Some(OutlookFault::TooLong)
-    } else {
-        None
+        return Err(OutlookFault::NoEvent);
     }
+    if report.minutes > sheet.period {
+        return Err(OutlookFault::TooLong);
+    }
+    Ok(())
 }
 
-/// What is wrong with the first report at fault.
-fn first_fault(sheet: &Sheet, reports: &[Report]) -> Option<OutlookFault>
-    ensures { result ≡ first_fault (tables_of sheet.now) reports.now }
+/// Tests the reports in their order: the first at fault is the one that is told.
+fn check_reports(sheet: &Sheet, reports: &[Report]) -> Result<(), OutlookFault>
+    ensures { result_err result ≡ first_fault (tables_of sheet.now) reports.now }
 {
     for report in reports {
-        let fault = fault_in(sheet, *report);
-        if fault.is_some() {
-            return fault;
-        }
+        check_report(sheet, *report)?;
     }
-    None
+    Ok(())
 }
 
-/// Why there is no outlook with so many cells for the lateness and for the live activities.
-pub(crate) fn refusal(
+/// Tests whether there is an outlook with so many cells for the lateness and for the live activities.
+pub(crate) fn check_call(
     sheet: &Sheet,
     reports: &[Report],
     late_cells: usize,
     live_cells: usize,
-) -> Option<OutlookFault>
-    ensures { result ≡ refusal_in (tables_of sheet.now) reports.now late_cells live_cells }
+) -> Result<(), OutlookFault>
+    ensures { result_err result ≡ refusal_in (tables_of sheet.now) reports.now late_cells live_cells }
 {
-    let fault = first_fault(sheet, reports);
-    if fault.is_some() {
-        return fault;
-    }
+    check_reports(sheet, reports)?;
     if late_cells < sheet.events.len() || live_cells < sheet.activities.len() {
-        return Some(OutlookFault::ShortTable);
+        return Err(OutlookFault::ShortTable);
     }
-    None
+    Ok(())
 }
 
 /// Notes each report in its event's cell, where a later one replaces an earlier one.

@@ -15,14 +15,14 @@ use Rattle.timetable.specs.Parts.{lots_on}
 use Rattle.timetable.proofs.Strides.{unstruck_same}
 use Rattle.owed.specs.Owed.{struck_due, by_strikes}
 
-pub struck_all : (rule : ℕ → ℕ → ℕ) (d : Day) {A : Type 0} (p : Prices A) → LawfulPrices p → lots_total p.tolls (struck_due p d) d.lots.now ≡ by_strikes p (yard_of rule d)
+pub struck_all : (rule : ℕ → ℕ → ℕ) (d : Day) {A : Type 0} (p : Prices A) → LawfulPrices p → lots_total p.tolls (struck_due p d) d.sheet.lots.now ≡ by_strikes p (yard_of rule d)
 unfolding struck_charges lot_count path
-struck_all rule d p fair = sum_same fair.tolls (length d.lots.now) _ _ (λ i h. each i)
+struck_all rule d p fair = sum_same fair.tolls (length d.sheet.lots.now) _ _ (λ i h. each i)
   where
-    each : (i : ℕ) → paid_at (struck_due p d) d.lots.now i
-        ≡ given p.tolls (not (unstruck (yard_of rule d) (stretch (lot_at d.lots.now i) d.steps.now))) (p.miss (lot_at d.lots.now i).class (lot_at d.lots.now i).parcels d.period)
+    each : (i : ℕ) → paid_at (struck_due p d) d.sheet.lots.now i
+        ≡ given p.tolls (not (unstruck (yard_of rule d) (stretch (lot_at d.sheet.lots.now i) d.sheet.steps.now))) (p.miss (lot_at d.sheet.lots.now i).class (lot_at d.sheet.lots.now i).parcels d.sheet.period)
     each i =
-        ap (λ (b : Bool). given p.tolls (not b) (p.miss (lot_at d.lots.now i).class (lot_at d.lots.now i).parcels d.period)) (unstruck_same rule d (stretch (lot_at d.lots.now i) d.steps.now))
+        ap (λ (b : Bool). given p.tolls (not b) (p.miss (lot_at d.sheet.lots.now i).class (lot_at d.sheet.lots.now i).parcels d.sheet.period)) (unstruck_same rule d (stretch (lot_at d.sheet.lots.now i) d.sheet.steps.now))
 
 -- no rule enters what the strikes cost
 pub strikes_same : (rule : ℕ → ℕ → ℕ) (d : Day) {A : Type 0} (p : Prices A) → by_strikes p (lots_on d) ≡ by_strikes p (yard_of rule d)

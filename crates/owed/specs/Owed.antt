@@ -20,7 +20,7 @@ use Rattle.bills.specs.Columns.{Billed}
 
 module _ {A : Type 0} (p : Prices A) where
   abbrev pub struck_due : Day → Lot → A
-  struck_due d lot = given p.tolls (not (unstruck (lots_on d) (stretch lot d.steps.now))) (p.miss lot.class lot.parcels d.period)
+  struck_due d lot = given p.tolls (not (unstruck (lots_on d) (stretch lot d.sheet.steps.now))) (p.miss lot.class lot.parcels d.sheet.period)
 
   abbrev pub by_strikes : Yard → A
   by_strikes g = struck_charges g p.tolls (fares_of p g)

@@ -1,65 +1,35 @@
--- Where nothing stands in the way, and what was chosen then.
-use Rattle.std.proofs.Common.{◌≡◌, ℕ, ◌<◌, ◌≤◌, Bool, true, false, eqb, ltb, ◌⊎◌, List, length, get_or, is_some, Some, None, Option, sym, refl, ap, ◌∙◌, subst, inl, inr, arith}
-use Rattle.std.proofs.lemmas.Bool.{cases_lt, cond-true, lt-ltb, both_ways}
+-- What was chosen where nothing stands in the way.
+use Rattle.std.proofs.Common.{◌≡◌, ℕ, ◌≤◌, Bool, true, false, eqb, List, length, get_or, sym, ap, ◌∙◌, subst, arith}
 use Rattle.carry.specs.Laws.{LawfulRule}
 use Rattle.tariff.specs.Prices.{Prices, LawfulPrices}
-use Rattle.model.specs.Yard.{Yard, event_count, activity_count, tail, head, handed}
-use Rattle.model.specs.Finite.{first}
+use Rattle.model.specs.Yard.{event_count, activity_count, tail, head, handed}
 use Rattle.model.specs.Lateness.{Least, least}
-use Rattle.model.specs.Meeting.{meets}
-use Rattle.model.specs.Lots.{lot_count}
-use Rattle.model.specs.Tangles.{tangled}
 use Rattle.model.specs.Laws.{Clear, cost}
 use Rattle.model.proofs.Lateness.{least_one}
-use Rattle.model.proofs.Meets.{first_lowest}
 use Rattle.model.proofs.OnSheets.{sound}
 use Rattle.model.proofs.Stands.{no_rival_cheaper, toll_by_bills}
-use Rattle.model.proofs.Tangles.{tangled_decides}
 use Rattle.timetable.specs.declared.day.Day.{Day}
-use Rattle.timetable.specs.Days.{Ready, sheet_on, delay_on, mark_on, yard_of}
-use Rattle.timetable.specs.Found.{found_first}
+use Rattle.timetable.specs.Days.{sheet_on, delay_on, mark_on, yard_of}
 use Rattle.timetable.specs.Parts.{waits_by}
 use Rattle.timetable.proofs.Loops.{least_short, reported_on}
 use Rattle.owed.specs.Owed.{by_bills}
 use Rattle.tolls.specs.Written.{Written, minutes_in}
 use Rattle.tolls.proofs.Paid.{binds_same, cost_same}
 use Rattle.choice.specs.Chosen.{byte, gone_count, Chosen}
-use Rattle.planner.specs.declared.hindrance.Hindrance.TheVariants.{Meeting}
-use Rattle.planner.specs.Plans.{or_tangle, or_else, hindered, PlanIn, TollOfPlan}
+use Rattle.planner.specs.Plans.{PlanIn, TollOfPlan}
 
--- a search that finds nothing
-found_none : (n : ℕ) (t : ℕ → Bool) → found_first n t ≡ None → (i : ℕ) → i < n → t i ≡ false
-found_none n t h i w = go (cases_lt (first n t) n)
-  where
-    go : (first n t < n) ⊎ (n ≤ first n t) → t i ≡ false
-    go (inl x) = absurd (both_ways true (ap is_some (sym (cond-true (ltb (first n t) n) (Some (first n t)) None (lt-ltb (first n t) n x)) ∙ h)) refl)
-    go (inr x) = (first_lowest n t).below i (omega (arith, w, x))
-
-neither : (event lot : Option ℕ) → or_else event lot ≡ None → (event ≡ None) × (lot ≡ None)
-neither (Some e) lot h = absurd (both_ways true (ap is_some h) refl)
-neither None (Some i) h = absurd (both_ways true (ap is_some h) refl)
-neither None None h = (refl, refl)
-
-pub clear_of : (g : Yard) → hindered g ≡ None → Clear g
-clear_of g h =
-    let n = neither (found_first (event_count g) (meets g)) (found_first (lot_count g) (tangled g)) h in
-    record {
-      no_meeting = found_none (event_count g) (meets g) n.0;
-      no_tangle = λ i w k. both_ways (tangled g i) (found_none (lot_count g) (tangled g) n.1 i w) ((tangled_decides g i).1 k);
-    }
-
-module _ {A : Type 0} (rule : ℕ → ℕ → ℕ) (d : Day) (p : Prices A) (lawful : LawfulRule rule) (fair : LawfulPrices p) (r : Ready d) (late gone : List ℕ) (c : Chosen p (yard_of rule d) late gone) where
+module _ {A : Type 0} (rule : ℕ → ℕ → ℕ) (d : Day) (p : Prices A) (lawful : LawfulRule rule) (fair : LawfulPrices p) (late gone : List ℕ) (c : Chosen p (yard_of rule d) late gone) where
   byte_waits : (b : Bool) (n : ℕ) → n ≡ byte b → eqb n 0 ≡ b
   byte_waits true n e = ap (λ (k : ℕ). eqb k 0) e
   byte_waits false n e = ap (λ (k : ℕ). eqb k 0) e
 
   -- what was chosen can be charged
-  pub written_so : length d.events.now ≤ length late → length d.activities.now ≤ length gone → Written d late gone
+  pub written_so : length d.sheet.events.now ≤ length late → length d.sheet.activities.now ≤ length gone → Written d late gone
   unfolding event_count activity_count
   written_so l m = record {
     late_room = l;
     gone_room = m;
-    short = λ e h. omega (arith, c.lateness e h, least_short rule d lawful r (waits_by gone) e);
+    short = λ e h. omega (arith, c.lateness e h, least_short rule d lawful (waits_by gone) e);
     tells = λ a h. byte_waits _ (get_or gone a 0) (c.bytes a h) ∙ sym (binds_same rule d (waits_by gone) a);
   }
 
@@ -68,7 +38,7 @@ module _ {A : Type 0} (rule : ℕ → ℕ → ℕ) (d : Day) (p : Prices A) (law
   unfolding event_count activity_count
   least_so =
       let g = yard_of rule d in
-      let so = sound (sheet_on d) rule (delay_on d.delays.now) (mark_on d.marks.now d.trial) r.formed lawful in
+      let so = sound (sheet_on d) rule (delay_on d.delays.now) (mark_on d.marks.now d.trial) d.sheet.kept lawful in
       let l = least_one g so (waits_by gone) in
       record {
         lawful = record {
@@ -91,25 +61,15 @@ module _ {A : Type 0} (rule : ℕ → ℕ → ℕ) (d : Day) (p : Prices A) (law
     lateness = least_so;
     toll_is = t;
     cheapest = λ x y ly.
-        let same = t ∙ cost_same rule d p (waits_by gone) (minutes_in late) (least (yard_of rule d) (waits_by gone)) fair r c.lateness in
+        let same = t ∙ cost_same rule d p (waits_by gone) (minutes_in late) (least (yard_of rule d) (waits_by gone)) fair c.lateness in
         subst (λ (u : A). p.tolls.at_most u (cost p (yard_of rule d) x y) ≡ true) (sym same)
-        (no_rival_cheaper rule p lawful fair (sheet_on d) (delay_on d.delays.now) (mark_on d.marks.now d.trial) r.formed (reported_on rule d r) clear (waits_by gone) c.choice x y ly);
+        (no_rival_cheaper rule p lawful fair (sheet_on d) (delay_on d.delays.now) (mark_on d.marks.now d.trial) d.sheet.kept (reported_on rule d) clear (waits_by gone) c.choice x y ly);
     count_is = n;
   }
 
--- what stands in the way, by what the two searches found
-module _ (rule : ℕ → ℕ → ℕ) (d : Day) where
-  pub by_meeting : (event : ℕ) → Some event ≡ found_first (length d.events.now) (meets (yard_of rule d)) → Some (Meeting event) ≡ hindered (yard_of rule d)
-  unfolding event_count lot_count
-  by_meeting event m = ap (λ (x : Option ℕ). or_else x (found_first (length d.lots.now) (tangled (yard_of rule d)))) m
-
-  pub by_tangle : (lot : Option ℕ) → None ≡ found_first (length d.events.now) (meets (yard_of rule d)) → lot ≡ found_first (length d.lots.now) (tangled (yard_of rule d)) → or_tangle lot ≡ hindered (yard_of rule d)
-  unfolding event_count lot_count
-  by_tangle lot m t = ap or_tangle t ∙ ap (λ (x : Option ℕ). or_else x (found_first (length d.lots.now) (tangled (yard_of rule d)))) m
-
 -- the toll by bills is that of every plan
-pub toll_so : {A : Type 0} (rule : ℕ → ℕ → ℕ) (d : Day) (p : Prices A) → LawfulRule rule → LawfulPrices p → Ready d → Clear (yard_of rule d) → (toll : A) → toll ≡ by_bills p (yard_of rule d) → TollOfPlan p (yard_of rule d) toll
-toll_so rule d p lawful fair r clear toll t = record {
+pub toll_so : {A : Type 0} (rule : ℕ → ℕ → ℕ) (d : Day) (p : Prices A) → LawfulRule rule → LawfulPrices p → Clear (yard_of rule d) → (toll : A) → toll ≡ by_bills p (yard_of rule d) → TollOfPlan p (yard_of rule d) toll
+toll_so rule d p lawful fair clear toll t = record {
   by_bills_is = t;
-  as_planned = λ z b. t ∙ sym (toll_by_bills rule p lawful fair (sheet_on d) (delay_on d.delays.now) (mark_on d.marks.now d.trial) r.formed (reported_on rule d r) clear z b);
+  as_planned = λ z b. t ∙ sym (toll_by_bills rule p lawful fair (sheet_on d) (delay_on d.delays.now) (mark_on d.marks.now d.trial) d.sheet.kept (reported_on rule d) clear z b);
 }

@@ -1,34 +1,16 @@
--- Plans in tables, and what stands in their way.
+-- Plans in tables.
 --
---   hindered    the lowest event where delays meet, or else the lowest tangled lot, or else nothing
 --   TollOfPlan  the toll that every plan of the yard has
 --   PlanIn      tables that hold the choice by bills and its least lateness, with their toll, which no rival beats, and how many unmarked transfers go
-use Rattle.std.specs.Prelude.{◌≡◌, ℕ, ◌<◌, true, List, Some, None, Option, slice_index}
+use Rattle.std.specs.Prelude.{◌≡◌, ℕ, ◌<◌, true, List, slice_index}
 use Rattle.tariff.specs.Prices.{Prices}
-use Rattle.model.specs.Yard.{Yard, event_count, activity_count}
+use Rattle.model.specs.Yard.{Yard, activity_count}
 use Rattle.model.specs.Lateness.{Choice, binds, Lawful, Least, least}
-use Rattle.model.specs.Meeting.{meets}
-use Rattle.model.specs.Lots.{lot_count}
-use Rattle.model.specs.Tangles.{tangled}
 use Rattle.model.specs.Laws.{ByBills, cost}
-use Rattle.timetable.specs.Found.{found_first}
 use Rattle.timetable.specs.Parts.{waits_by}
 use Rattle.owed.specs.Owed.{by_bills}
 use Rattle.tolls.specs.Written.{minutes_in}
 use Rattle.choice.specs.Chosen.{byte, gone_count}
-use Rattle.planner.specs.declared.hindrance.Hindrance.{Hindrance}
-use Rattle.planner.specs.declared.hindrance.Hindrance.TheVariants.{Meeting, Tangle}
-
-abbrev pub or_tangle : Option ℕ → Option Hindrance
-or_tangle (Some lot) = Some (Tangle lot)
-or_tangle None = None
-
-abbrev pub or_else : Option ℕ → Option ℕ → Option Hindrance
-or_else (Some event) lot = Some (Meeting event)
-or_else None lot = or_tangle lot
-
-abbrev pub hindered : Yard → Option Hindrance
-hindered g = or_else (found_first (event_count g) (meets g)) (found_first (lot_count g) (tangled g))
 
 pub record PlanIn {A : Type 0} (p : Prices A) (g : Yard) (late gone : List ℕ) (toll : A) (count : ℕ) : Type 0 where
   -- the bytes: 1 for an activity that goes, 0 for one that waits; and they are the choice by bills

@@ -3,9 +3,10 @@
 
 use carry::deduct::Deduct;
 use carry::gate::Gate;
+use carry::rule::{LONGEST, Measured};
 use carry::share::Share;
 use makers::relief::Relief;
-use reckoner::Way;
+use reckoner::{Deducted, Gated, Growing, Shared};
 use std::io;
 use tables::{try_carry, try_remains};
 use yard::print_sums;
@@ -15,23 +16,20 @@ mod tables;
 mod tally;
 mod yard;
 
+/// The most minutes that the relief rule hands on.
+const MOST: u16 = 90;
+
+/// What all answers of a rule's two calls come to beside a reckoning.
+fn print_rule<G: Growing, R: Measured>(rt: &impl Print, name: &str, rule: &R) -> io::Result<()> {
+    println!(rt; "{name} carry: {}", try_carry::<G, _>(rule))?;
+    println!(rt; "{name} remains: {}", try_remains::<G, _>(rule))
+}
+
 fn main(rt: HostRuntime) -> io::Result<()> {
-    println!(rt; "deduct carry: {}", try_carry(&Deduct, Way::Deduct))?;
-    println!(rt; "deduct remains: {}", try_remains(&Deduct, Way::Deduct))?;
-    println!(rt; "gate carry: {}", try_carry(&Gate, Way::Gate))?;
-    println!(rt; "gate remains: {}", try_remains(&Gate, Way::Gate))?;
-    println!(rt; "share carry: {}", try_carry(&Share, Way::Share))?;
-    println!(rt; "share remains: {}", try_remains(&Share, Way::Share))?;
-    let relief = Relief { most: 90 };
-    println!(rt; "relief carry: {}", try_carry(&relief, Way::Relief))?;
-    println!(rt; "relief remains: {}", try_remains(&relief, Way::Relief))?;
-    println!(rt;
-        "deduct taken for gate, carry: {}",
-        try_carry(&Deduct, Way::Gate)
-    )?;
-    println!(rt;
-        "deduct taken for gate, remains: {}",
-        try_remains(&Deduct, Way::Gate)
-    )?;
+    print_rule::<Deducted<LONGEST>, _>(&rt, "deduct", &Deduct)?;
+    print_rule::<Gated, _>(&rt, "gate", &Gate)?;
+    print_rule::<Shared, _>(&rt, "share", &Share)?;
+    print_rule::<Deducted<MOST>, _>(&rt, "relief", &Relief { most: MOST })?;
+    print_rule::<Gated, _>(&rt, "deduct taken for gate,", &Deduct)?;
     print_sums(&rt)
 }

@@ -2,7 +2,7 @@
 use std::fmt;
 
 /// How many answers were tried, how many were wrong, and a checksum over all of them in their order.
-#[derive(Clone, Copy)]
+#[derive(Clone, Copy, PartialEq, Eq, Default, Debug)]
 pub struct Tally {
     answers: u32,
     wrong: u32,
@@ -10,14 +10,7 @@ pub struct Tally {
 }
 
 impl Tally {
-    pub fn new() -> Self {
-        Tally {
-            answers: 0,
-            wrong: 0,
-            checksum: 0,
-        }
-    }
-
+    /// One answer more.
     pub fn count(&mut self, answer: u16, expected: u16) {
         self.answers = self.answers.wrapping_add(1);
         if answer != expected {
@@ -32,9 +25,10 @@ impl Tally {
 
 impl fmt::Display for Tally {
     fn fmt<W: fmt::Write>(&self, f: &mut fmt::Formatter<W>) -> fmt::Result {
-        let answers = self.answers;
-        let wrong = self.wrong;
-        let checksum = self.checksum;
-        write!(f, "{answers} answers, {wrong} wrong, checksum {checksum}")
+        write!(
+            f,
+            "{} answers, {} wrong, checksum {}",
+            self.answers, self.wrong, self.checksum
+        )
     }
 }

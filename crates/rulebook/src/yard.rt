@@ -2,9 +2,9 @@
 use makers::grace::Grace;
 use sheet::records::{Activity, Class, Event, Kind, Lot, Side};
 use sheet::sheet::Sheet;
-use std::io;
+use std::{fmt, io};
 use sums::all_alike::{all_late, all_missed};
-use sums::plain_sums::{missed_minutes, missed_ranks};
+use tariff::charges::Tariff;
 use tariff::parcel_minutes::ParcelMinutes;
 use tariff::ranked::Ranked;
 
@@ -91,23 +91,20 @@ const LOTS: [Lot; 3] = [
 
 const STEPS: [u16; 5] = [0, 2, 1, 3, 3];
 
-/// The tolls if every lot ended 10 minutes late, and if every lot missed a connection.
+/// The tolls under one tariff if every lot ended 10 minutes late, and if every lot missed a connection.
+fn print_tolls<T: Tariff>(rt: &impl Print, name: &str, tariff: &T, yard: &Sheet) -> io::Result<()>
+where
+    T::Toll: fmt::Display,
+{
+    let late = all_late(tariff, yard, 10);
+    let missed = all_missed(tariff, yard);
+    println!(rt; "{name}: late {late}, missed {missed}")
+}
+
+/// The tolls of the yard under three tariffs.
 pub fn print_sums(rt: &impl Print) -> io::Result<()> {
     let yard = Sheet::new(60, &EVENTS, &ACTIVITIES, &LOTS, &STEPS);
-    let grace = Grace { free: 4 };
-    println!(rt;
-        "parcel-minutes: late {}, missed {}",
-        all_late(&ParcelMinutes, &yard, 10),
-        missed_minutes(&yard)
-    )?;
-    println!(rt;
-        "ranked: late {}, missed {}",
-        all_late(&Ranked, &yard, 10),
-        missed_ranks(&yard)
-    )?;
-    println!(rt;
-        "grace: late {}, missed {}",
-        all_late(&grace, &yard, 10),
-        all_missed(&grace, &yard)
-    )
+    print_tolls(rt, "parcel-minutes", &ParcelMinutes, &yard)?;
+    print_tolls(rt, "ranked", &Ranked, &yard)?;
+    print_tolls(rt, "grace", &Grace { free: 4 }, &yard)
 }

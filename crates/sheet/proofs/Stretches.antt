@@ -1,9 +1,11 @@
 -- What a well-formed sheet's rules say of one record at a time.
 use Rattle.std.proofs.Common.{◌≡◌, ℕ, zero, suc, ◌+◌, ◌<◌, ◌≤◌, true, List, [], ◌∷◌, length, get_or, take, drop, None, arith, length-drop}
+use Rattle.std.specs.List.{AllByRecursion as All}
+use Rattle.std.proofs.ByRecursion.{All-from_get_or}
 use Rattle.std.proofs.lemmas.Bool.{and_parts, eqb-true, leb-true}
 use Rattle.sheet.specs.declared.records.Activity.{Activity}
 use Rattle.sheet.specs.declared.records.Lot.{Lot}
-use Rattle.sheet.specs.Rules.{Tables, well_formed, period_keeps, sizes_keep, every, event_keeps, activity_keeps, lot_keeps, lots_keep, path_keeps}
+use Rattle.sheet.specs.Rules.{Tables, Within, no_lot, well_formed, period_keeps, sizes_keep, every, event_keeps, activity_keeps, lot_keeps, lots_keep, path_keeps}
 
 -- the rules of a sheet, one by one
 pub record Kept (t : Tables) : Type 0 where
@@ -46,3 +48,8 @@ within_steps activities first (l ∷ ls) steps h (suc i) d k =
     let f = first_of activities first l ls steps h in
     let r = within_steps activities (first + l.count) ls (drop l.count steps) f.others i d (omega arith) in
     omega (arith, r, f.within, length-drop l.count steps)
+
+-- and so does each of them
+pub all_within : (t : Tables) → well_formed t ≡ true → All (Within t.steps) t.lots
+all_within t h =
+    All-from_get_or (Within t.steps) t.lots no_lot (λ i k. let w = within_steps t.activities 0 t.lots t.steps (kept_of t h).lots i no_lot k in omega (arith, w))

@@ -1,6 +1,8 @@
 -- The bytes of a sheet.
 --
 --   number_bytes     a number of 16 bits, high byte first
+--   side_number, kind_number, class_number    the number for a sort
+--   event_numbers, activity_numbers           the numbers of a record
 --   event_bytes, activity_bytes, lot_bytes    one record
 --   section_bytes    a section: its count, then its records
 --   bytes_of         the whole sheet: terms, events, activities, lots
@@ -32,6 +34,12 @@ kind_number Transfer = 2
 abbrev pub class_number : Class → ℕ
 class_number Ordinary = 0
 class_number Express = 1
+
+abbrev pub event_numbers : Event → List ℕ
+event_numbers e = e.truck ∷ e.site ∷ side_number e.side ∷ e.tolerance ∷ []
+
+abbrev pub activity_numbers : Activity → List ℕ
+activity_numbers a = kind_number a.kind ∷ a.tail ∷ a.head ∷ a.margin ∷ []
 
 -- four numbers, as an event or an activity has them
 abbrev pub four_bytes : ℕ → ℕ → ℕ → ℕ → List ℕ

@@ -2,12 +2,12 @@
 --
 --   Tables         a period and the four tables, as plain lists
 --   event_at       the event of a number; activity_at and lot_at likewise
---   stretch        a lot's own part of the step table
+--   stretch        a lot's own part of the step table; Within, that it lies there
 --   event_keeps, activity_keeps, lot_keeps    one record keeps its rule
 --   path_keeps     a lot's steps lead on, one from where the last one ended
 --   lots_keep      all lots keep theirs, and their stretches fill the step table one after another
 --   well_formed    all of it together: what every sheet is
-use Rattle.std.specs.Prelude.{ℕ, ◌+◌, Bool, true, false, not, ◌&&◌, List, [], ◌∷◌, length, take, drop, Some, None, Option, ◌==◌, nat_le, nat_lt, slice_index_or}
+use Rattle.std.specs.Prelude.{ℕ, ◌+◌, ◌≤◌, Bool, true, false, not, ◌&&◌, List, [], ◌∷◌, length, take, drop, Some, None, Option, ◌==◌, nat_le, nat_lt, slice_index_or}
 use Rattle.sheet.specs.declared.records.Side.{Side}
 use Rattle.sheet.specs.declared.records.Side.TheVariants.{Arrival, Departure}
 use Rattle.sheet.specs.declared.records.Kind.{Kind}
@@ -50,6 +50,10 @@ lot_at lots i = slice_index_or lots i no_lot
 -- a lot's stretch of the step table
 abbrev pub stretch : Lot → List ℕ → List ℕ
 stretch l steps = take l.count (drop l.first steps)
+
+-- the stretch lies within the step table
+abbrev pub Within : List ℕ → Lot → Type 0
+Within steps l = l.first + l.count ≤ length steps
 
 -- every one of a table's records passes a test
 abbrev pub every : {A : Type 0} → (A → Bool) → List A → Bool

@@ -3,3 +3,4 @@
 
 pub mod records;
 pub mod sheet;
+pub mod sorts;

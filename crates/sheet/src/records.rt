@@ -1,4 +1,7 @@
 //! What a sheet's tables hold: one struct for each kind of record.
+ghost use Rattle.std.specs.Prelude.{◌≡◌, ℕ, List};
+ghost use Rattle.sheet.specs.Bytes.{event_numbers, activity_numbers};
+ghost use Rattle.sheet.specs.Rules.{stretch, Within};
 
 /// Whether a truck comes to a site or leaves it.
 #[derive(Clone, Copy, PartialEq, Eq, Debug)]
@@ -54,4 +57,40 @@ pub struct Lot {
     pub first: u16,
     /// How many steps that stretch has.
     pub count: u16,
+}
+
+/// A record that four numbers stand for in a sheet's bytes.
+pub trait Numbered: Copy {
+    ghost numbers: { Self → List ℕ };
+
+    /// The four numbers, in the order of the bytes.
+    fn numbers(self) -> [u16; 4]
+        ensures { result ≡ numbers self };
+}
+
+impl Numbered for Event {
+    ghost numbers = { event_numbers };
+
+    fn numbers(self) -> [u16; 4] {
+        [self.truck, self.site, self.side.into(), self.tolerance]
+    }
+}
+
+impl Numbered for Activity {
+    ghost numbers = { activity_numbers };
+
+    fn numbers(self) -> [u16; 4] {
+        [self.kind.into(), self.tail, self.head, self.margin]
+    }
+}
+
+impl Lot {
+    /// The lot's own steps, its stretch of the step table.
+    pub fn stretch(self, steps: &[u16]) -> &[u16]
+        requires { Within steps.now self }
+        ensures { result.now ≡ stretch self steps.now }
+    {
+        let first = usize::from(self.first);
+        &steps[first..first + usize::from(self.count)]
+    }
 }

@@ -1,5 +1,5 @@
 -- An accepted sheet: its tables are well formed, and its bytes are just those that the tables are written as.
-use Rattle.std.proofs.Common.{◌≡◌, ℕ, zero, suc, ◌+◌, ◌≤◌, Bool, true, false, cond, ◌&&◌, ltb, List, [], ◌∷◌, ◌++◌, map, length, take, drop, None, Ok, Err, Result, sym, refl, ap, ◌∙◌, subst, arith}
+use Rattle.std.proofs.Common.{◌≡◌, ℕ, zero, suc, ◌+◌, ◌≤◌, Bool, true, false, cond, ltb, List, [], ◌∷◌, ◌++◌, map, length, take, drop, None, Ok, Err, Result, sym, refl, ap, ◌∙◌, subst, arith}
 use Rattle.std.proofs.lemmas.List.{append_assoc, length-append, take_at, drop_at}
 use Rattle.std.proofs.lemmas.Bool.{and_from, le-leb, eq-eqb, ltb-false}
 use Rattle.std.specs.List.{flat_map}
@@ -14,32 +14,13 @@ use Rattle.sheet_read.specs.declared.fault.ReaderFault.{ReaderFault}
 use Rattle.sheet_read.specs.declared.fault.RecordFault.{RecordFault}
 use Rattle.sheet_read.specs.declared.fault.SheetFault.{SheetFault}
 use Rattle.sheet_read.specs.declared.fault.SheetFault.TheVariants.{Bounds, Table}
-use Rattle.sheet_read.specs.Numbers.{number_of}
-use Rattle.sheet_read.specs.Sections.{spot_at, run, placed, next_number, fewest, most, counted, count_of, at_count, section_of}
+use Rattle.sheet_read.specs.Numbers.{run, next_number, number_of}
+use Rattle.sheet_read.specs.Sections.{spot_at, placed, fewest, most, counted, count_of, at_count, section_of}
 use Rattle.sheet_read.specs.Lots.{lot_step, step_on, lot_made, lot_of, next_lot, lot_only, steps_only}
 use Rattle.sheet_read.proofs.Running.{first_turn}
-use Rattle.sheet_read.proofs.Faithful.{Bytes, Found, ok_not_err, then_ok, number_faithful, head_bytes, head_faithful, step_faithful}
+use Rattle.sheet_read.proofs.Faithful.{Bytes, Found, then_ok, number_faithful, run_faithful, head_bytes, head_faithful, step_faithful}
 use Rattle.sheet_read.proofs.Lotting.{lot_found}
 use Rattle.sheet_read.proofs.Counted.{section_whole}
-
--- one reading after another: the bytes are those of what was read, and the whole keeps its rule
-module _ {A S E : Type 0} (read : S → List ℕ → Result (A × List ℕ) E) (next : S → A → S) (each_bytes : A → List ℕ) (keeps : S → A → Bool) (all_keep : S → List A → Bool)
-    (none : (s : S) → all_keep s [] ≡ true) (more : (s : S) (x : A) (xs : List A) → all_keep s (x ∷ xs) ≡ (keeps s x && all_keep (next s x) xs))
-    (each : (s : S) (bs : List ℕ) (p : A × List ℕ) → Bytes bs → read s bs ≡ Ok p → Found bs (each_bytes p.0) p.1 (keeps s p.0)) where
-  pub run_faithful : (s : S) (n : ℕ) (bs : List ℕ) (xs : List A) (rest : List ℕ) → Bytes bs → run read next s n bs ≡ (xs, Ok rest) → Found bs (flat_map each_bytes xs) rest (all_keep s xs)
-  run_faithful s zero bs xs rest h e =
-      let x : [] ≡ xs = ap (λ (r : List A × Result (List ℕ) E). r.0) e in
-      let r : bs ≡ rest = let q : ◌≡◌ {A = Result (List ℕ) E} (Ok bs) (Ok rest) = ap (λ (r : List A × Result (List ℕ) E). r.1) e in cc in
-      subst (λ (ys : List A). Found bs (flat_map each_bytes ys) rest (all_keep s ys)) x (record { bytes = r; left = subst Bytes r h; rule = none s })
-  run_faithful s (suc n) bs xs rest h e =
-      let f = first_turn read next s n bs xs rest e in
-      let a = each s bs (f.item, f.mid) h f.reads in
-      let b = run_faithful (next s f.item) n f.mid f.others rest a.left f.goes_on in
-      subst (λ (ys : List A). Found bs (flat_map each_bytes ys) rest (all_keep s ys)) (sym f.splits) (record {
-        bytes = a.bytes ∙ ap (λ (ys : List ℕ). each_bytes f.item ++ ys) b.bytes ∙ sym (append_assoc (each_bytes f.item) (flat_map each_bytes f.others) rest);
-        left = b.left;
-        rule = more s f.item f.others ∙ and_from _ _ a.rule b.rule;
-      })
 
 -- the steps of a lot
 steps_faithful : (activities : List Activity) (lot total : ℕ) (n : ℕ) (bs steps rest : List ℕ) → Bytes bs → run (lot_step activities lot total) (step_on activities) None n bs ≡ (steps, Ok rest)
@@ -58,16 +39,16 @@ pub record CountFound (section : Section) (cells : ℕ) (bs : List ℕ) (n : ℕ
 
 at_count_ok : {A : Type 0} (r : Result A ReaderFault) (x : A) → at_count r ≡ Ok x → r ≡ Ok x
 at_count_ok (Ok y) x h = cc
-at_count_ok (Err e) x h = absurd (ok_not_err x _ h)
+at_count_ok (Err e) x h = cc
 
 counted_ok : (section : Section) (cells : ℕ) (at : Spot) (p q : ℕ × List ℕ) → counted section cells at p ≡ Ok q → (p ≡ q) × (fewest section ≤ p.0) × (p.0 ≤ most section) × (p.0 ≤ cells)
 counted_ok section cells at p q = tested (ltb p.0 (fewest section)) (ltb (most section) p.0) (ltb cells p.0) refl refl refl
   where
     tested : (a b c : Bool) → ltb p.0 (fewest section) ≡ a → ltb (most section) p.0 ≡ b → ltb cells p.0 ≡ c
         → cond a (Err (Bounds at)) (cond b (Err (Bounds at)) (cond c (Err (Table at)) (Ok p))) ≡ Ok q → (p ≡ q) × (fewest section ≤ p.0) × (p.0 ≤ most section) × (p.0 ≤ cells)
-    tested true b c x y z e = absurd (ok_not_err q _ e)
-    tested false true c x y z e = absurd (ok_not_err q _ e)
-    tested false false true x y z e = absurd (ok_not_err q _ e)
+    tested true b c x y z e = cc
+    tested false true c x y z e = cc
+    tested false false true x y z e = cc
     tested false false false x y z e = (cc, ltb-false p.0 (fewest section) x, ltb-false (most section) p.0 y, ltb-false cells p.0 z)
 
 pub count_faithful : (section : Section) (total cells : ℕ) (bs : List ℕ) (n : ℕ) (rest : List ℕ) → Bytes bs → count_of section total cells bs ≡ Ok (n, rest) → CountFound section cells bs n rest

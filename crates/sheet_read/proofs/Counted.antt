@@ -6,13 +6,14 @@ use Rattle.sheet_read.specs.declared.fault.Section.{Section}
 use Rattle.sheet_read.specs.declared.fault.Spot.{Spot}
 use Rattle.sheet_read.specs.declared.fault.RecordFault.{RecordFault}
 use Rattle.sheet_read.specs.declared.fault.SheetFault.{SheetFault}
-use Rattle.sheet_read.specs.Sections.{placed, next_number, records_of, in_sheet, count_of, section_from, section_of}
+use Rattle.sheet_read.specs.Numbers.{next_number}
+use Rattle.sheet_read.specs.Sections.{placed, records_of, in_sheet, count_of, section_from, section_of}
 use Rattle.sheet_read.proofs.Running.{run_length}
-use Rattle.sheet_read.proofs.Faithful.{ok_not_err, then_ok}
+use Rattle.sheet_read.proofs.Faithful.{then_ok}
 
 pub in_sheet_ok : {A : Type 0} (r : Result A RecordFault) (x : A) → in_sheet r ≡ Ok x → r ≡ Ok x
 in_sheet_ok (Ok y) x h = cc
-in_sheet_ok (Err e) x h = absurd (ok_not_err x _ h)
+in_sheet_ok (Err e) x h = cc
 
 -- a section that was read to its end, by its count and its records
 pub record Whole {A : Type 0} (read : Spot → List ℕ → Result (A × List ℕ) RecordFault) (section : Section) (total : ℕ) (r : Result (ℕ × List ℕ) SheetFault) (n : ℕ) (rest : List ℕ) : Type 0 where
@@ -23,7 +24,7 @@ pub record Whole {A : Type 0} (read : Spot → List ℕ → Result (A × List �
 
 module _ {A : Type 0} (read : Spot → List ℕ → Result (A × List ℕ) RecordFault) (section : Section) (total : ℕ) where
   pub section_whole : (r : Result (ℕ × List ℕ) SheetFault) (n : ℕ) (rest : List ℕ) → (section_from read section total r).1 ≡ Ok (n, rest) → Whole read section total r n rest
-  section_whole (Err f) n rest e = absurd (ok_not_err (n, rest) f e)
+  section_whole (Err f) n rest e = cc
   section_whole (Ok p) n rest e =
       let t = then_ok (in_sheet (records_of read section total 0 p.0 p.1).1) (λ (left : List ℕ). Ok (p.0, left)) (n, rest) e in
       let q : (p.0, t.0) ≡ (n, rest) = cc in

@@ -1,6 +1,6 @@
 -- The lots: what one lot's reading says, and what the loop over the lots has read and written.
-use Rattle.std.proofs.Common.{◌≡◌, ℕ, ◌+◌, ◌<◌, ◌≤◌, Bool, true, false, cond, ltb, List, [], ◌∷◌, ◌++◌, map, length, set, Some, None, Ok, Err, Option, Result, sym, refl, ap, ◌∙◌, zero-add, arith}
-use Rattle.std.proofs.lemmas.List.{append_assoc, append-nil, length-append, length-map, map-append}
+use Rattle.std.proofs.Common.{◌≡◌, ℕ, ◌+◌, ◌<◌, ◌≤◌, Bool, true, false, cond, ltb, List, [], ◌∷◌, ◌++◌, map, length, set, take, drop, Some, None, Ok, Err, Option, Result, sym, refl, ap, ◌∙◌, zero-add, arith, length-drop}
+use Rattle.std.proofs.lemmas.List.{append_assoc, append-nil, length-append, length-map, map-append, length-take-le, drop-append-le, take-append-drop}
 use Rattle.std.proofs.lemmas.Bool.{ltb-false}
 use Rattle.std.specs.List.{flat_map}
 use Rattle.sheet.specs.declared.records.Activity.{Activity}
@@ -17,7 +17,6 @@ use Rattle.sheet_read.specs.Records.{head_of}
 use Rattle.sheet_read.specs.Sections.{spot_at}
 use Rattle.sheet_read.specs.Lots.{lot_step, step_on, steps_from, room_for, LotRead, lot_made, lot_with, lot_in, lot_after, lot_of, lot_alone, lot_steps, next_lot, lots_of, lot_only, steps_only, lots_read, steps_read, lots_answer}
 use Rattle.sheet_read.proofs.Running.{run_length, Reached, reached_none, reached_more, reached_fault, reached_all}
-use Rattle.sheet_read.proofs.Faithful.{ok_not_err, none_not_some}
 
 -- a lot that was read, by its head and its steps
 pub record LotFound (activities : List Activity) (total cells lot used : ℕ) (bs : List ℕ) (l : Lot) (steps rest : List ℕ) : Type 0 where
@@ -33,20 +32,20 @@ room_none : (at : Spot) (cells used count : ℕ) → room_for at cells used coun
 room_none at cells used count h = outer (ltb 4096 (used + count)) (ltb cells (used + count)) refl refl h
   where
     outer : (a b : Bool) → ltb 4096 (used + count) ≡ a → ltb cells (used + count) ≡ b → cond a (Some (Bounds at)) (cond b (Some (Table at)) None) ≡ None → (used + count ≤ 4096) × (used + count ≤ cells)
-    outer true b p q e = absurd (none_not_some _ (sym e))
-    outer false true p q e = absurd (none_not_some _ (sym e))
+    outer true b p q e = cc
+    outer false true p q e = cc
     outer false false p q e = (ltb-false 4096 (used + count) p, ltb-false cells (used + count) q)
 
 lot_with_ok : (used : ℕ) (h : LotHead) (r : List ℕ × Result (List ℕ) RecordFault) (p : (Lot × List ℕ) × List ℕ) → lot_with used h r ≡ Ok p → (r ≡ (p.0.1, Ok p.1)) × (p.0.0 ≡ lot_made used h)
 lot_with_ok used h (steps, Ok rest) p e =
     let q : ((lot_made used h, steps), rest) ≡ p = cc in
     (ap {B = List ℕ × Result (List ℕ) RecordFault} (λ (x : (Lot × List ℕ) × List ℕ). (x.0.1, Ok x.1)) q, ap (λ (x : (Lot × List ℕ) × List ℕ). x.0.0) (sym q))
-lot_with_ok used h (steps, Err f) p e = absurd (ok_not_err p _ e)
+lot_with_ok used h (steps, Err f) p e = cc
 
 module _ (activities : List Activity) (total cells lot used : ℕ) (bs : List ℕ) where
   found_in : (h : LotHead × List ℕ) (o : Option SheetFault) (p : (Lot × List ℕ) × List ℕ) → head_of (spot_at Lots lot total bs) bs ≡ Ok h
       → room_for (spot_at Lots lot total bs) cells used h.0.count ≡ o → lot_in activities total lot used h o ≡ Ok p → LotFound activities total cells lot used bs p.0.0 p.0.1 p.1
-  found_in h (Some f) p e r q = absurd (ok_not_err p _ q)
+  found_in h (Some f) p e r q = cc
   found_in h None p e r q =
       let w = lot_with_ok used h.0 (steps_from activities lot total h.0.count h.1) p q in
       let room = room_none (spot_at Lots lot total bs) cells used h.0.count r in
@@ -56,7 +55,7 @@ module _ (activities : List Activity) (total cells lot used : ℕ) (bs : List �
 
   found_after : (r : Result (LotHead × List ℕ) RecordFault) (p : (Lot × List ℕ) × List ℕ) → head_of (spot_at Lots lot total bs) bs ≡ r
       → lot_after activities total cells lot used (spot_at Lots lot total bs) r ≡ Ok p → LotFound activities total cells lot used bs p.0.0 p.0.1 p.1
-  found_after (Err f) p e q = absurd (ok_not_err p _ q)
+  found_after (Err f) p e q = cc
   found_after (Ok h) p e q = found_in h (room_for (spot_at Lots lot total bs) cells used h.0.count) p e refl q
 
   pub lot_found : (p : (Lot × List ℕ) × List ℕ) → lot_of activities total cells (lot, used) bs ≡ Ok p → LotFound activities total cells lot used bs p.0.0 p.0.1 p.1
@@ -67,11 +66,52 @@ pub lot_whole : (r : LotRead) (l : Lot) (rest : List ℕ) → lot_alone r ≡ Ok
 lot_whole (Ok p) l rest e =
     let q : (p.0.0, p.1) ≡ (l, rest) = cc in
     ap {B = LotRead} (λ (x : Lot × List ℕ). Ok ((x.0, p.0.1), x.1)) q
-lot_whole (Err f) l rest e = absurd (ok_not_err (l, rest) _ e)
+lot_whole (Err f) l rest e = cc
 
 pub lot_broken : (r : LotRead) (f : SheetFault) → lot_alone r ≡ Err f → r ≡ Err (lot_steps r, f)
-lot_broken (Ok p) f e = absurd (ok_not_err _ _ (sym e))
+lot_broken (Ok p) f e = cc
 lot_broken (Err g) f e = let q : g.1 ≡ f = cc in ap {B = LotRead} (λ (x : SheetFault). Err (g.0, x)) q
+
+lot_with_steps : (used : ℕ) (h : LotHead) (r : List ℕ × Result (List ℕ) RecordFault) → lot_steps (lot_with used h r) ≡ r.0
+lot_with_steps used h (steps, Ok rest) = refl
+lot_with_steps used h (steps, Err f) = refl
+
+-- the steps that are read once the lot's head is known to have room
+own_steps : (activities : List Activity) (total cells lot used : ℕ) (bs : List ℕ) (h : LotHead) (rest : List ℕ) → head_of (spot_at Lots lot total bs) bs ≡ Ok (h, rest)
+    → room_for (spot_at Lots lot total bs) cells used h.count ≡ None → lot_steps (lot_of activities total cells (lot, used) bs) ≡ (steps_from activities lot total h.count rest).0
+own_steps activities total cells lot used bs h rest e r =
+    ap (λ (x : Result (LotHead × List ℕ) RecordFault). lot_steps (lot_after activities total cells lot used (spot_at Lots lot total bs) x)) e
+    ∙ ap (λ (x : Option SheetFault). lot_steps (lot_in activities total lot used (h, rest) x)) r
+    ∙ lot_with_steps used h (steps_from activities lot total h.count rest)
+
+-- steps laid into a stretch of the table
+laid_own : (used count : ℕ) (xs own old : List ℕ) → own ≡ laid 0 xs (take count (drop used old)) → length own ≡ length (take count (drop used old)) → used + count ≤ length old
+    → take used old ++ (own ++ drop count (drop used old)) ≡ laid used xs old
+laid_own used count xs own old e l h =
+    let d = drop used old in
+    let n : length (take count d) ≡ count = length-take-le count d (omega (arith, length-drop used old, h)) in
+    let k : length xs ≤ length (take count d) = omega (arith, l, ap length e, length-append xs (drop (length xs) (take count d))) in
+    let joined : drop (length xs) (take count d) ++ drop count d ≡ drop (length xs) d =
+    sym (drop-append-le (length xs) (take count d) (drop count d) k) ∙ ap (drop (length xs)) (take-append-drop count d) in
+    ap (λ (ys : List ℕ). take used old ++ (ys ++ drop count d)) e
+    ∙ ap (λ (ys : List ℕ). take used old ++ ys) (append_assoc xs (drop (length xs) (take count d)) (drop count d) ∙ ap (λ (ys : List ℕ). xs ++ ys) joined)
+
+-- what a lot's reading leaves of the step table, where it lends the lot's stretch of `k` cells from cell `a` on
+module _ (activities : List Activity) (total lot used : ℕ) (bs : List ℕ) (old : List ℕ) where
+  pub own_laid : (at : Spot) (h : LotHead) (rest own : List ℕ) (left a k : ℕ) → at ≡ spot_at Lots lot total bs → Ok (h, rest) ≡ head_of at bs → None ≡ room_for at (length old) used h.count
+      → left ≡ total → a ≡ used → k ≡ h.count → own ≡ laid 0 (steps_from activities lot left (length (take k (drop a old))) rest).0 (take k (drop a old))
+      → length own ≡ length (take k (drop a old))
+      → take a old ++ (own ++ drop k (drop a old)) ≡ laid used (lot_steps (lot_of activities total (length old) (lot, used) bs)) old
+  own_laid at h rest own left a k e g r t u v o l =
+      let room : room_for (spot_at Lots lot total bs) (length old) used h.count ≡ None = ap (λ (x : Spot). room_for x (length old) used h.count) (sym e) ∙ sym r in
+      let fits = room_none (spot_at Lots lot total bs) (length old) used h.count room in
+      let head : head_of (spot_at Lots lot total bs) bs ≡ Ok (h, rest) = ap (λ (x : Spot). head_of x bs) (sym e) ∙ sym g in
+      let n : length (take k (drop a old)) ≡ h.count = rw (u, v) (length-take-le h.count (drop used old) (omega (arith, length-drop used old, fits.1))) in
+      let xs : (steps_from activities lot left (length (take k (drop a old))) rest).0 ≡ lot_steps (lot_of activities total (length old) (lot, used) bs) =
+      ap (λ (j : ℕ). (steps_from activities lot j (length (take k (drop a old))) rest).0) t ∙ ap (λ (j : ℕ). (steps_from activities lot total j rest).0) n
+      ∙ sym (own_steps activities total (length old) lot used bs h rest head room) in
+      laid_own a k _ own old o l (omega (arith, fits.1, u, v)) ∙ ap (λ (ys : List ℕ). laid a ys old) xs
+      ∙ ap (λ (j : ℕ). laid j (lot_steps (lot_of activities total (length old) (lot, used) bs)) old) u
 
 joined_push : (xs : List (Lot × List ℕ)) (x : Lot × List ℕ) → flat_map steps_only (xs ++ x ∷ []) ≡ flat_map steps_only xs ++ steps_only x
 joined_push [] x = append-nil (steps_only x)

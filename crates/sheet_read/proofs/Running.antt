@@ -1,12 +1,10 @@
 -- One reading after another: what a loop has read and written after i turns.
-use Rattle.std.proofs.Common.{◌≡◌, ℕ, zero, suc, ◌+◌, ◌-◌, ◌<◌, ◌≤◌, List, [], ◌∷◌, ◌++◌, length, set, Ok, Err, Result, sym, refl, ap, ◌∙◌, arith, Bor}
+use Rattle.std.proofs.Common.{◌≡◌, ℕ, zero, suc, ◌+◌, ◌-◌, ◌<◌, ◌≤◌, List, [], ◌∷◌, ◌++◌, length, set, Ok, Err, Result, sym, refl, ap, ◌∙◌, arith}
 use native.Mathlib.Nat.{sub-zero}
 use Rattle.std.proofs.lemmas.List.{append_assoc, append-nil, length_push}
 use Rattle.sheet.specs.Laid.{laid}
 use Rattle.sheet.proofs.Laying.{laid_none, laid_more}
-use Rattle.std.specs.Result.{result_map_both}
-use Rattle.sheet_read.specs.Numbers.{with_rest}
-use Rattle.sheet_read.specs.Sections.{run}
+use Rattle.sheet_read.specs.Numbers.{run}
 
 -- what is read after `xs`
 abbrev pub after : {A E : Type 0} → List A → List A × Result (List ℕ) E → List A × Result (List ℕ) E
@@ -116,10 +114,3 @@ module _ {A S E : Type 0} (read : S → List ℕ → Result (A × List ℕ) E) (
   pub filled_all : (i : ℕ) (s : S) (rest : List ℕ) (table : List A) → Filled i s rest table → n ≤ i
       → ((run read next s₀ n bs).1 ≡ Ok rest) × (table ≡ laid at (run read next s₀ n bs).0 old)
   filled_all i s rest table t h = ended t.items (Ok rest) table t.cells (reached_all read next s₀ n bs i s rest t.items t.reached h)
-
--- what a call read, by what it returned
-pub read_ok : {A E : Type 0} (r : Result (A × Bor (List ℕ)) E) (s : Result (A × List ℕ) E) (p : A × Bor (List ℕ)) → result_map_both with_rest (λ e. e) r ≡ s → r ≡ Ok p → s ≡ Ok (p.0, p.1.now)
-read_ok {A} {E} r s p h w = sym h ∙ ap {B = Result (A × List ℕ) E} (result_map_both with_rest (λ e. e)) w
-
-pub read_err : {A E : Type 0} (r : Result (A × Bor (List ℕ)) E) (s : Result (A × List ℕ) E) (f : E) → result_map_both with_rest (λ e. e) r ≡ s → r ≡ Err f → s ≡ Err f
-read_err {A} {E} r s f h w = sym h ∙ ap {B = Result (A × List ℕ) E} (result_map_both with_rest (λ e. e)) w

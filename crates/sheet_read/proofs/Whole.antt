@@ -18,7 +18,7 @@ use Rattle.sheet_read.specs.Sections.{spot_at, in_sheet, count_of, section_of}
 use Rattle.sheet_read.specs.Lots.{lots_of, lot_of, next_lot, lots_answer, lots_read, steps_read, lot_only, steps_only}
 use Rattle.sheet_read.specs.Sheets.{Room, Reading, LotsReading, closed, extent, lots_section_from, lots_section_of, lots_then, activities_then, events_then, terms_of, terms_then, reading_of, read_tables, AcceptedSheet}
 use Rattle.sheet_read.proofs.Running.{run_length}
-use Rattle.sheet_read.proofs.Faithful.{Bytes, ok_not_err, then_ok, period_faithful, event_faithful, activity_faithful}
+use Rattle.sheet_read.proofs.Faithful.{Bytes, then_ok, period_faithful, event_faithful, activity_faithful}
 use Rattle.sheet_read.proofs.Counted.{in_sheet_ok}
 use Rattle.sheet_read.proofs.Accepted.{CountFound, count_faithful, SectionFound, section_faithful, lots_faithful}
 
@@ -42,13 +42,13 @@ LotsRun = List (Lot × List ℕ) × Result (List ℕ) (List ℕ × SheetFault)
 
 closed_ok : (total n : ℕ) (y : ℕ × List ℕ) (k : ℕ) → closed total n y ≡ Ok k → y ≡ (k, [])
 closed_ok total n (j, []) k e = let q : j ≡ k = cc in ap {B = ℕ × List ℕ} (λ (i : ℕ). (i, [])) q
-closed_ok total n (j, b ∷ rest) k e = absurd (ok_not_err k _ e)
+closed_ok total n (j, b ∷ rest) k e = cc
 
 answered : (l : LotsRun) (k : ℕ) → lots_answer l ≡ Ok (k, []) → (l ≡ (l.0, Ok [])) × (length (flat_map steps_only l.0) ≡ k)
 answered (ls, Ok rest) k e =
     let q : ◌≡◌ {A = ℕ × List ℕ} (length (flat_map steps_only ls), rest) (k, []) = cc in
     (ap {B = List (Lot × List ℕ) × Result (List ℕ) (List ℕ × SheetFault)} (λ (y : ℕ × List ℕ). (ls, Ok y.1)) q, ap (λ (y : ℕ × List ℕ). y.0) q)
-answered (ls, Err f) k e = absurd (ok_not_err (k, []) _ e)
+answered (ls, Err f) k e = cc
 
 pub record LotsWhole (acts : List Activity) (bs : List ℕ) (r : LotsReading) (q : ℕ × ℕ) : Type 0 where
   pub bytes : bs ≡ section_bytes (lot_bytes r.steps) r.lots
@@ -90,7 +90,7 @@ module _ (acts : List Activity) (total lot_cells cells : ℕ) (bs : List ℕ) (h
       (record { bytes = r.bytes; rule = r.rule; lots_long = r.lots_long; steps_long = r.steps_long; few_lots = r.few_lots; few_steps = r.few_steps }))
 
   from_count : (o : Result (ℕ × List ℕ) SheetFault) (q : ℕ × ℕ) → count_of Lots total lot_cells bs ≡ o → (lots_section_from acts total cells o).answer ≡ Ok q → LotsWhole acts bs (lots_section_from acts total cells o) q
-  from_count (Err f) q c e = absurd (ok_not_err q f e)
+  from_count (Err f) q c e = cc
   from_count (Ok p) q c e = from_run p.0 p.1 q (count_faithful Lots total lot_cells bs p.0 p.1 h c) e
 
   pub lots_whole : (q : ℕ × ℕ) → (lots_section_of acts total lot_cells cells bs).answer ≡ Ok q → LotsWhole acts bs (lots_section_of acts total lot_cells cells bs) q
@@ -143,7 +143,7 @@ module _ (room : Room) (bs : List ℕ) (h : Bytes bs) (x : Extent) where
       → (section_of (activity_of es) Activities (length bs) room.activities rest₂).1 ≡ o
       → (activities_then (length bs) period es e room ((section_of (activity_of es) Activities (length bs) room.activities rest₂).0, o)).answer ≡ Ok x
       → Accepted bs (activities_then (length bs) period es e room ((section_of (activity_of es) Activities (length bs) room.activities rest₂).0, o)) x
-  from_activities period rest rest₂ es e (Err f) p t d s k = absurd (ok_not_err x f k)
+  from_activities period rest rest₂ es e (Err f) p t d s k = cc
   from_activities period rest rest₂ es e (Ok y) p t d s k =
       let g = section_faithful (activity_of es) activity_bytes (activity_keeps es) (activity_faithful es) Activities (length bs) room.activities rest₂ y.0 y.1 d.left s in
       from_lots period rest rest₂ y.1 es e _ y.0 p t d g k
@@ -152,13 +152,13 @@ module _ (room : Room) (bs : List ℕ) (h : Bytes bs) (x : Extent) where
       → (section_of (event_of period) Events (length bs) room.events rest).1 ≡ o
       → (events_then (length bs) period room ((section_of (event_of period) Events (length bs) room.events rest).0, o)).answer ≡ Ok x
       → Accepted bs (events_then (length bs) period room ((section_of (event_of period) Events (length bs) room.events rest).0, o)) x
-  from_events period rest (Err f) p t d s k = absurd (ok_not_err x f k)
+  from_events period rest (Err f) p t d s k = cc
   from_events period rest (Ok y) p t d s k =
       let g = section_faithful (event_of period) event_bytes (event_keeps period) (event_faithful period) Events (length bs) room.events rest y.0 y.1 d s in
       from_activities period rest y.1 _ y.0 _ p t g refl k
 
   from_terms : (o : Result (ℕ × List ℕ) SheetFault) → terms_of (length bs) bs ≡ o → (terms_then (length bs) room o).answer ≡ Ok x → Accepted bs (terms_then (length bs) room o) x
-  from_terms (Err f) s k = absurd (ok_not_err x f k)
+  from_terms (Err f) s k = cc
   from_terms (Ok y) s k =
       let a = then_ok (count_of Terms (length bs) 1 bs) (λ (p : ℕ × List ℕ). in_sheet (period_of (spot_at Terms 0 (length bs) p.1) p.1)) y s in
       let c = count_faithful Terms (length bs) 1 bs a.0.0 a.0.1 h a.1 in

@@ -28,7 +28,7 @@ rule_number Lots = 6
 
 -- a refusal by its number and the spot of what is at fault
 abbrev pub refused : ℕ → Spot → Refusal
-refused number at = record { number = number; section = section_number at.section; «record» = at.«record»; place = at.place }
+refused number at = record { number = number; section = at.section; «record» = at.«record»; place = at.place }
 
 -- 1 bytes end early; 2 a count or the step total out of bounds; 3 to 6 a rule broken; 7 bytes left over; 8 a table too short
 abbrev pub refusal_of : SheetFault → Refusal
@@ -42,4 +42,4 @@ refusal_of (Table at) = refused 8 at
 -- the line that tells a refusal
 abbrev pub refusal_text : Refusal → List ℕ
 refusal_text r =
-    codes "refused " ++ (decimal r.number ++ (codes " section " ++ (decimal r.section ++ (codes " record " ++ (decimal r.«record» ++ (codes " byte " ++ decimal r.place))))))
+    codes "refused " ++ (decimal r.number ++ (codes " section " ++ (decimal (section_number r.section) ++ (codes " record " ++ (decimal r.«record» ++ (codes " byte " ++ decimal r.place))))))

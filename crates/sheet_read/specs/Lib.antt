@@ -4,3 +4,4 @@ pub mod Records
 pub mod Sections
 pub mod Lots
 pub mod Sheets
+pub mod Lent

@@ -16,7 +16,8 @@ use Rattle.sheet_read.specs.declared.fault.SheetFault.{SheetFault}
 use Rattle.sheet_read.specs.declared.fault.SheetFault.TheVariants.{Record, Bounds, Table}
 use Rattle.sheet_read.specs.declared.«record».LotHead.{LotHead}
 use Rattle.sheet_read.specs.Records.{head_of, step_of}
-use Rattle.sheet_read.specs.Sections.{spot_at, run}
+use Rattle.sheet_read.specs.Numbers.{run}
+use Rattle.sheet_read.specs.Sections.{spot_at}
 
 -- a step of lot number `lot`, told where it begins, and where the way has come to after it
 abbrev pub lot_step : List Activity → ℕ → ℕ → Option ℕ → List ℕ → Result (ℕ × List ℕ) RecordFault

@@ -1,11 +1,11 @@
 -- A section: its count, then one record after another.
 --
 --   spot_at       where the bytes that are left begin in a sheet of `total` bytes
---   run           one reading after another, `n` times: what was read before the end or the first fault, and how it ends
+--   records_of    the records of a section, one after another
 --   fewest, most  how many records a section may have
 --   count_of      a section's count, with the bytes after it, or its fault
 --   section_of    the records that a section gives, and its count with the bytes after it, or the fault
-use Rattle.std.specs.Prelude.{ℕ, zero, suc, ◌+◌, ◌-◌, cond, List, [], ◌∷◌, length, Ok, Err, Result, nat_lt}
+use Rattle.std.specs.Prelude.{ℕ, ◌-◌, cond, List, [], length, Ok, Err, Result, nat_lt}
 use Rattle.sheet_read.specs.declared.fault.Section.{Section}
 use Rattle.sheet_read.specs.declared.fault.Section.TheVariants.{Terms, Events, Activities, Lots}
 use Rattle.sheet_read.specs.declared.fault.Spot.{Spot}
@@ -13,26 +13,14 @@ use Rattle.sheet_read.specs.declared.fault.ReaderFault.{ReaderFault}
 use Rattle.sheet_read.specs.declared.fault.RecordFault.{RecordFault}
 use Rattle.sheet_read.specs.declared.fault.SheetFault.{SheetFault}
 use Rattle.sheet_read.specs.declared.fault.SheetFault.TheVariants.{Count, Record, Bounds, Table}
-use Rattle.sheet_read.specs.Numbers.{then, number_of}
+use Rattle.sheet_read.specs.Numbers.{then, run, next_number, number_of}
 
 abbrev pub spot_at : Section → ℕ → ℕ → List ℕ → Spot
 spot_at section item total rest = record { section = section; «record» = item; place = total - length rest }
 
--- `read s bs` reads one thing at the front of bs in the state s, and `next` is the state after it
-abbrev pub run : {A S E : Type 0} → (S → List ℕ → Result (A × List ℕ) E) → (S → A → S) → S → ℕ → List ℕ → List A × Result (List ℕ) E
-run read next s zero bs = ([], Ok bs)
-run read next s (suc n) bs =
-    elim (read s bs) [
-      | Ok p ↦ (p.0 ∷ (run read next (next s p.0) n p.1).0, (run read next (next s p.0) n p.1).1)
-      | Err f ↦ ([], Err f)
-    ]
-
 -- the records of a section are numbered, and each is told where it begins
 abbrev pub placed : {A : Type 0} → (Spot → List ℕ → Result (A × List ℕ) RecordFault) → Section → ℕ → ℕ → List ℕ → Result (A × List ℕ) RecordFault
 placed read section total i bs = read (spot_at section i total bs) bs
-
-abbrev pub next_number : {A : Type 0} → ℕ → A → ℕ
-next_number i x = i + 1
 
 abbrev pub records_of : {A : Type 0} → (Spot → List ℕ → Result (A × List ℕ) RecordFault) → Section → ℕ → ℕ → ℕ → List ℕ → List A × Result (List ℕ) RecordFault
 records_of read section total = run (placed read section total) next_number

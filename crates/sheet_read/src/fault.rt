@@ -1,5 +1,5 @@
 //! Why a sheet is refused: the byte reader's fault, in the record's, in the sheet's, each with the spot where what is at fault begins.
-ghost use Rattle.std.specs.Prelude.{◌≡◌, Some};
+ghost use Rattle.std.specs.Prelude.{◌≡◌, Some, decimal};
 ghost use Rattle.sheet_read.specs.declared.fault.RecordFault.TheVariants.{Reader};
 ghost use Rattle.sheet_read.specs.declared.fault.SheetFault.TheVariants.{Count, Record};
 ghost use Rattle.sheet_read.specs.Faults.{refusal_of, refusal_text, section_number, rule_number};
@@ -25,14 +25,14 @@ pub struct Spot {
 }
 
 /// Why no number can be read.
-#[derive(Clone, Copy)]
+#[derive(Clone, Copy, PartialEq, Eq, Debug)]
 pub enum ReaderFault {
     /// Fewer than two bytes are left.
     Short(Spot),
 }
 
 /// Why no record can be read.
-#[derive(Clone, Copy)]
+#[derive(Clone, Copy, PartialEq, Eq, Debug)]
 pub enum RecordFault {
     /// The byte reader's fault.
     Reader(ReaderFault),
@@ -49,7 +49,7 @@ impl From<ReaderFault> for RecordFault {
 }
 
 /// Why no sheet can be read.
-#[derive(Clone, Copy)]
+#[derive(Clone, Copy, PartialEq, Eq, Debug)]
 pub enum SheetFault {
     /// The byte reader's fault at a section's count.
     Count(ReaderFault),
@@ -79,28 +79,40 @@ impl From<RecordFault> for SheetFault {
     }
 }
 
-/// What is told of a fault: its number, the section (1 to 4), the record, and the byte.
+/// What is told of a fault: its number, the section, the record, and the byte.
 #[derive(Clone, Copy, PartialEq, Eq, Debug)]
 pub struct Refusal {
+    // The kind is `SheetFault`; its number here is the one that people and tools read (docs/REFUSALS.md).
     pub number: u8,
-    pub section: u8,
+    pub section: Section,
     pub record: u16,
     pub place: usize,
 }
 
-impl Section {
-    /// The section's number, 1 to 4.
-    pub fn number(self) -> u8
-        ensures { result ≡ section_number self }
-    {
-        match self {
+impl From<Section> for u8 {
+    ghost from_gives = { λ section number. number ≡ section_number section };
+
+    fn from(section: Section) -> u8 {
+        match section {
             Section::Terms => 1,
             Section::Events => 2,
             Section::Activities => 3,
             Section::Lots => 4,
         }
     }
+}
 
+/// A section is told by its number.
+impl fmt::Display for Section {
+    ghost output = { λ section. Some (decimal (section_number section)) };
+
+    fn fmt<W: fmt::Write>(&self, f: &mut fmt::Formatter<W>) -> fmt::Result {
+        let number = u8::from(*self);
+        write!(f, "{number}")
+    }
+}
+
+impl Section {
     /// The number of the refusal where a record of the section breaks its rule.
     fn rule_number(self) -> u8
         ensures { result ≡ rule_number self }
@@ -129,7 +141,7 @@ impl SheetFault {
         };
         Refusal {
             number,
-            section: at.section.number(),
+            section: at.section,
             record: at.record,
             place: at.place,
         }
@@ -140,13 +152,10 @@ impl fmt::Display for Refusal {
     ghost output = { λ r. Some (refusal_text r) };
 
     fn fmt<W: fmt::Write>(&self, f: &mut fmt::Formatter<W>) -> fmt::Result {
-        let number = self.number;
-        let section = self.section;
-        let record = self.record;
-        let place = self.place;
         write!(
             f,
-            "refused {number} section {section} record {record} byte {place}"
+            "refused {} section {} record {} byte {}",
+            self.number, self.section, self.record, self.place
         )
     }
 }
@@ -155,7 +164,6 @@ impl fmt::Display for SheetFault {
     ghost output = { λ fault. Some (refusal_text (refusal_of fault)) };
 
     fn fmt<W: fmt::Write>(&self, f: &mut fmt::Formatter<W>) -> fmt::Result {
-        let refusal = self.refusal();
-        write!(f, "{refusal}")
+        write!(f, "{}", self.refusal())
     }
 }

@@ -2,8 +2,9 @@
 #![tactic(auto)]
 
 pub mod fault;
+pub mod lent;
 mod lot;
-mod number;
 pub mod read;
 pub mod record;
 mod section;
+mod unread;

@@ -1,70 +1,88 @@
-//! The records of a sheet, each from its numbers; a step too, which is a number under a rule of its own.
-ghost use Rattle.std.specs.Prelude.{◌≡◌};
-ghost use Rattle.std.specs.Result.{result_map_both};
-ghost use Rattle.sheet_read.specs.Numbers.{with_rest};
-ghost use Rattle.sheet_read.specs.Records.{side_of, kind_of, class_of, event_from, activity_from, head_from, period_of, event_of, activity_of, head_of, step_of};
+//! The records of a sheet, each made of its numbers; the period and a step too, which are one number under a rule of their own.
+ghost use Rattle.std.specs.Prelude.{◌≡◌, ℕ, ◌≤◌, List, Option as Maybe};
+ghost use Rattle.std.proofs.Common.{lit≤};
 ghost use Rattle.sheet.specs.Rules.{ends_fit, activity_keeps, step_keeps};
+ghost use Rattle.sheet_read.specs.Numbers.{Reads};
+ghost use Rattle.sheet_read.specs.Records.{period_from, event_from, activity_from, head_from, step_from, record_of};
 
 use crate::fault::{RecordFault, Spot};
-use crate::number::{take_four, take_number};
+use crate::unread::Unread;
 use sheet::records::{Activity, Class, Event, Kind, Side};
 
-/// Reads the period.
-pub(crate) fn read_period(bytes: &[u8], at: Spot) -> Result<(u16, &[u8]), RecordFault>
-    ensures { result_map_both with_rest (λ e. e) result ≡ period_of at bytes.now }
-{
-    let (period, rest) = take_number(bytes, at)?;
-    if period < 1 || period > 1440 {
-        return Err(RecordFault::Rule(at));
-    }
-    Ok((period, rest))
+/// The rule of one kind of record, which has `N` numbers.
+pub(crate) trait RecordRule<const N: usize> {
+    type Record: Copy;
+
+    /// What some numbers make, if they keep the rule.
+    ghost makes: { Self → List ℕ → Maybe Self.Record };
+
+    /// The record of these numbers, if they keep the rule.
+    fn make(&self, numbers: [u16; N]) -> Option<Self::Record>
+        ensures { result ≡ makes self.now numbers.entry };
+
+    // No record has more than four numbers.
+    ghost few: { N ≤ 4 };
 }
 
-fn side_from(number: u16) -> Option<Side>
-    ensures { result ≡ side_of number }
+/// Reads one record under its rule; `at` is where it begins.
+pub(crate) fn read_record<'b, const N: usize, R: RecordRule<N>>(
+    rule: &R,
+    unread: Unread<'b>,
+    at: Spot,
+) -> Result<(R::Record, Unread<'b>), RecordFault>
+    ensures { Reads unread.entry result (record_of (R.makes rule.now) N at unread.entry.rest.now) }
 {
-    match number {
-        0 => Some(Side::Arrival),
-        1 => Some(Side::Departure),
-        _ => None,
-    }
+    let mut numbers = [0; N];
+    let rest = unread.numbers(at, &mut numbers)?;
+    let item = rule.make(numbers).ok_or(RecordFault::Rule(at))?;
+    Ok((item, rest))
 }
 
-/// The event of four numbers, if it keeps its rule.
-fn event_from(period: u16, numbers: (u16, u16, u16, u16)) -> Option<Event>
-    ensures { result ≡ event_from period numbers }
-{
-    let (truck, site, side, tolerance) = numbers;
-    let side = side_from(side)?;
-    if tolerance > period {
-        return None;
+/// The rule of the period.
+#[derive(Clone, Copy)]
+pub(crate) struct PeriodRule;
+
+impl RecordRule<1> for PeriodRule {
+    type Record = u16;
+
+    ghost makes = { λ _. period_from };
+
+    fn make(&self, numbers: [u16; 1]) -> Option<u16>
+        ensures { result ≡ period_from numbers }
+    {
+        let [period] = numbers;
+        (1..=1440).contains(&period).then_some(period)
     }
-    Some(Event {
-        truck,
-        site,
-        side,
-        tolerance,
-    })
+
+    ghost few = { lit≤ tt };
 }
 
-/// Reads one event of a sheet with this period.
-pub(crate) fn read_event(bytes: &[u8], at: Spot, period: u16) -> Result<(Event, &[u8]), RecordFault>
-    ensures { result_map_both with_rest (λ e. e) result ≡ event_of period at bytes.now }
-{
-    let (numbers, rest) = take_four(bytes, at)?;
-    let event = event_from(period, numbers).ok_or(RecordFault::Rule(at))?;
-    Ok((event, rest))
+/// The rule of the events of a sheet with this period.
+#[derive(Clone, Copy)]
+pub(crate) struct EventRule {
+    pub period: u16,
 }
 
-fn kind_from(number: u16) -> Option<Kind>
-    ensures { result ≡ kind_of number }
-{
-    match number {
-        0 => Some(Kind::Drive),
-        1 => Some(Kind::Stand),
-        2 => Some(Kind::Transfer),
-        _ => None,
+impl RecordRule<4> for EventRule {
+    type Record = Event;
+
+    ghost makes = { λ s. event_from s.period };
+
+    fn make(&self, numbers: [u16; 4]) -> Option<Event>
+        ensures { result ≡ event_from self.now.period numbers }
+    {
+        let [truck, site, side, tolerance] = numbers;
+        let side = Side::try_from(side).ok()?;
+        let event = Event {
+            truck,
+            site,
+            side,
+            tolerance,
+        };
+        (tolerance <= self.period).then_some(event)
     }
+
+    ghost few = { lit≤ tt };
 }
 
 /// Whether an activity of this kind may lead from `tail` to `head`.
@@ -81,58 +99,46 @@ fn ends_fit(kind: Kind, tail: Event, head: Event) -> bool
     }
 }
 
-/// Whether an activity keeps its rule among these events.
-fn activity_keeps(events: &[Event], activity: Activity) -> bool
-    ensures { result ≡ activity_keeps events.now activity }
-{
-    let tail = usize::from(activity.tail);
-    let head = usize::from(activity.head);
-    if tail >= head || head >= events.len() || activity.margin > 1440 {
-        return false;
-    }
-    ends_fit(activity.kind, events[tail], events[head])
+/// The rule of the activities of a sheet with these events.
+#[derive(Clone, Copy)]
+pub(crate) struct ActivityRule<'e> {
+    pub events: &'e [Event],
 }
 
-/// The activity of four numbers, if it keeps its rule.
-fn activity_from(events: &[Event], numbers: (u16, u16, u16, u16)) -> Option<Activity>
-    ensures { result ≡ activity_from events.now numbers }
-{
-    let (kind, tail, head, margin) = numbers;
-    let kind = kind_from(kind)?;
-    let activity = Activity {
-        kind,
-        tail,
-        head,
-        margin,
-    };
-    if activity_keeps(events, activity) {
-        Some(activity)
-    } else {
-        None
+impl ActivityRule<'_> {
+    /// Whether an activity keeps the rule.
+    fn keeps(&self, activity: Activity) -> bool
+        ensures { result ≡ activity_keeps self.now.events.now activity }
+    {
+        let tail = usize::from(activity.tail);
+        let head = usize::from(activity.head);
+        tail < head
+            && head < self.events.len()
+            && activity.margin <= 1440
+            && ends_fit(activity.kind, self.events[tail], self.events[head])
     }
 }
 
-/// Reads one activity of a sheet with these events.
-pub(crate) fn read_activity<'b>(
-    bytes: &'b [u8],
-    at: Spot,
-    events: &[Event],
-) -> Result<(Activity, &'b [u8]), RecordFault>
-    ensures { result_map_both with_rest (λ e. e) result ≡ activity_of events.now at bytes.now }
-{
-    let (numbers, rest) = take_four(bytes, at)?;
-    let activity = activity_from(events, numbers).ok_or(RecordFault::Rule(at))?;
-    Ok((activity, rest))
-}
+impl RecordRule<4> for ActivityRule<'_> {
+    type Record = Activity;
 
-fn class_from(number: u16) -> Option<Class>
-    ensures { result ≡ class_of number }
-{
-    match number {
-        0 => Some(Class::Ordinary),
-        1 => Some(Class::Express),
-        _ => None,
+    ghost makes = { λ s. activity_from s.events.now };
+
+    fn make(&self, numbers: [u16; 4]) -> Option<Activity>
+        ensures { result ≡ activity_from self.now.events.now numbers }
+    {
+        let [kind, tail, head, margin] = numbers;
+        let kind = Kind::try_from(kind).ok()?;
+        let activity = Activity {
+            kind,
+            tail,
+            head,
+            margin,
+        };
+        self.keeps(activity).then_some(activity)
     }
+
+    ghost few = { lit≤ tt };
 }
 
 /// A lot's three numbers, which stand before its steps.
@@ -144,58 +150,62 @@ pub struct LotHead {
     pub count: u16,
 }
 
-/// The head of three numbers, if it keeps its rule.
-fn head_from(class: u16, parcels: u16, count: u16) -> Option<LotHead>
-    ensures { result ≡ head_from class parcels count }
-{
-    let class = class_from(class)?;
-    if parcels < 1 || count < 1 || count > 32 {
-        return None;
+/// The rule of a lot's three numbers.
+#[derive(Clone, Copy)]
+pub(crate) struct HeadRule;
+
+impl RecordRule<3> for HeadRule {
+    type Record = LotHead;
+
+    ghost makes = { λ _. head_from };
+
+    fn make(&self, numbers: [u16; 3]) -> Option<LotHead>
+        ensures { result ≡ head_from numbers }
+    {
+        let [class, parcels, count] = numbers;
+        let class = Class::try_from(class).ok()?;
+        let head = LotHead {
+            class,
+            parcels,
+            count,
+        };
+        (parcels >= 1 && (1..=32).contains(&count)).then_some(head)
     }
-    Some(LotHead {
-        class,
-        parcels,
-        count,
-    })
+
+    ghost few = { lit≤ tt };
 }
 
-/// Reads a lot's three numbers.
-pub(crate) fn read_head(bytes: &[u8], at: Spot) -> Result<(LotHead, &[u8]), RecordFault>
-    ensures { result_map_both with_rest (λ e. e) result ≡ head_of at bytes.now }
-{
-    let (class, rest) = take_number(bytes, at)?;
-    let (parcels, rest) = take_number(rest, at)?;
-    let (count, rest) = take_number(rest, at)?;
-    let head = head_from(class, parcels, count).ok_or(RecordFault::Rule(at))?;
-    Ok((head, rest))
+/// The rule of a step of a lot that has come to the event `from`, if it has begun.
+#[derive(Clone, Copy)]
+pub(crate) struct StepRule<'a> {
+    pub activities: &'a [Activity],
+    pub from: Option<u16>,
 }
 
-/// Whether a step is an activity of the sheet that leads on from where the lot has come to.
-fn step_keeps(activities: &[Activity], from: Option<u16>, step: u16) -> bool
-    ensures { result ≡ step_keeps activities.now from step }
-{
-    let step = usize::from(step);
-    if step >= activities.len() {
-        return false;
-    }
-    match from {
-        None => true,
-        Some(here) => activities[step].tail == here,
+impl StepRule<'_> {
+    /// Whether a step is an activity of the sheet that leads on from where the lot has come to.
+    fn keeps(&self, step: u16) -> bool
+        ensures { result ≡ step_keeps self.now.activities.now self.now.from step }
+    {
+        let step = usize::from(step);
+        step < self.activities.len()
+            && self
+                .from
+                .is_none_or(|here| self.activities[step].tail == here)
     }
 }
 
-/// Reads one step of a lot that has come to the event `from`, if it has begun.
-pub(crate) fn read_step<'b>(
-    bytes: &'b [u8],
-    at: Spot,
-    activities: &[Activity],
-    from: Option<u16>,
-) -> Result<(u16, &'b [u8]), RecordFault>
-    ensures { result_map_both with_rest (λ e. e) result ≡ step_of activities.now from at bytes.now }
-{
-    let (step, rest) = take_number(bytes, at)?;
-    if !step_keeps(activities, from, step) {
-        return Err(RecordFault::Rule(at));
+impl RecordRule<1> for StepRule<'_> {
+    type Record = u16;
+
+    ghost makes = { λ s. step_from s.activities.now s.from };
+
+    fn make(&self, numbers: [u16; 1]) -> Option<u16>
+        ensures { result ≡ step_from self.now.activities.now self.now.from numbers }
+    {
+        let [step] = numbers;
+        self.keeps(step).then_some(step)
     }
-    Ok((step, rest))
+
+    ghost few = { lit≤ tt };
 }

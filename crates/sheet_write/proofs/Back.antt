@@ -13,7 +13,7 @@ use Rattle.sheet.specs.declared.records.Event.{Event}
 use Rattle.sheet.specs.declared.records.Activity.{Activity}
 use Rattle.sheet.specs.declared.records.Lot.{Lot}
 use Rattle.sheet.specs.Rules.{Tables, every, event_keeps, activity_keeps, lot_keeps, path_keeps, step_keeps, period_keeps, lots_keep, stretch, well_formed}
-use Rattle.sheet.specs.Bytes.{number_bytes, four_bytes, side_number, kind_number, class_number, event_bytes, activity_bytes, lot_bytes, section_bytes, bytes_of}
+use Rattle.sheet.specs.Bytes.{number_bytes, side_number, kind_number, class_number, event_numbers, activity_numbers, event_bytes, activity_bytes, lot_bytes, section_bytes, bytes_of}
 use Rattle.sheet.proofs.Stretches.{kept_of, first_of}
 use Rattle.sheet_read.specs.declared.fault.Section.{Section}
 use Rattle.sheet_read.specs.declared.fault.Section.TheVariants.{Terms, Events, Activities, Lots}
@@ -22,9 +22,9 @@ use Rattle.sheet_read.specs.declared.fault.ReaderFault.{ReaderFault}
 use Rattle.sheet_read.specs.declared.fault.RecordFault.{RecordFault}
 use Rattle.sheet_read.specs.declared.fault.SheetFault.{SheetFault}
 use Rattle.sheet_read.specs.declared.«record».LotHead.{LotHead}
-use Rattle.sheet_read.specs.Numbers.{then, number_of, four_of}
-use Rattle.sheet_read.specs.Records.{in_record, passed, ruled, event_from, event_of, activity_from, activity_of, head_from, head_of, period_of}
-use Rattle.sheet_read.specs.Sections.{spot_at, run, placed, next_number, fewest, most, at_count, counted, count_of, in_sheet, section_from, section_of}
+use Rattle.sheet_read.specs.Numbers.{then, run, next_number, number_of, number_in, whole_run, numbers_of}
+use Rattle.sheet_read.specs.Records.{in_record, passed, ruled, record_of, event_from, event_of, activity_from, activity_of, head_from, head_of, period_from, period_of, step_from, step_of}
+use Rattle.sheet_read.specs.Sections.{spot_at, placed, fewest, most, at_count, counted, count_of, in_sheet, section_from, section_of}
 use Rattle.sheet_read.specs.Lots.{lot_step, step_on, steps_from, room_for, LotRead, lot_with, lot_in, lot_after, lot_of, next_lot, lots_of, lot_only, steps_only, lots_answer, lots_read, steps_read}
 use Rattle.sheet_read.specs.Sheets.{Room, LotsReading, closed, lots_section_from, lots_section_of, lots_then, activities_then, events_then, terms_of, terms_then, reading_of}
 use Rattle.sheet_write.specs.Writing.{HasRoom, whole_reading}
@@ -38,52 +38,6 @@ back n = omega arith
 number_back : (at : Spot) (n : ℕ) (rest : List ℕ) → number_of at (number_bytes n ++ rest) ≡ Ok (n, rest)
 number_back at n rest = ap {B = Result (ℕ × List ℕ) ReaderFault} (λ (k : ℕ). Ok (k, rest)) (back n)
 
-four_back : (at : Spot) (a b c d : ℕ) (rest : List ℕ) → four_of at (four_bytes a b c d ++ rest) ≡ Ok ((a, b, c, d), rest)
-four_back at a b c d rest = rw (back a, back b, back c, back d)
-
--- ---- records
-
--- a record that keeps its rule passes
-kept : {A : Type 0} (test : Bool) (x : A) → test ≡ true → passed test x ≡ Some x
-kept test x h = ap (λ (b : Bool). passed b x) h
-
-event_made : (period truck site tolerance : ℕ) (side : Side) → event_keeps period (record { truck = truck; site = site; side = side; tolerance = tolerance }) ≡ true
-    → event_from period (truck, site, side_number side, tolerance) ≡ Some (record { truck = truck; site = site; side = side; tolerance = tolerance })
-event_made period truck site tolerance Arrival h = kept _ _ h
-event_made period truck site tolerance Departure h = kept _ _ h
-
-pub event_back : (period : ℕ) (at : Spot) (e : Event) (rest : List ℕ) → event_keeps period e ≡ true → event_of period at (event_bytes e ++ rest) ≡ Ok (e, rest)
-event_back period at e rest h =
-    ap {B = Result (Event × List ℕ) RecordFault} (λ (r : Result ((ℕ × ℕ × ℕ × ℕ) × List ℕ) ReaderFault). then (in_record r) (λ p. then (ruled at (event_from period p.0)) (λ x. Ok (x, p.1)))) (four_back at e.truck e.site (side_number e.side) e.tolerance rest)
-    ∙ ap {B = Result (Event × List ℕ) RecordFault} (λ (o : Option Event). then (ruled at o) (λ x. Ok (x, rest))) (event_made period e.truck e.site e.tolerance e.side h)
-
-activity_made : (events : List Event) (kind : Kind) (tail head margin : ℕ) → activity_keeps events (record { kind = kind; tail = tail; head = head; margin = margin }) ≡ true
-    → activity_from events (kind_number kind, tail, head, margin) ≡ Some (record { kind = kind; tail = tail; head = head; margin = margin })
-activity_made events Drive tail head margin h = kept _ _ h
-activity_made events Stand tail head margin h = kept _ _ h
-activity_made events Transfer tail head margin h = kept _ _ h
-
-pub activity_back : (events : List Event) (at : Spot) (a : Activity) (rest : List ℕ) → activity_keeps events a ≡ true → activity_of events at (activity_bytes a ++ rest) ≡ Ok (a, rest)
-activity_back events at a rest h =
-    ap {B = Result (Activity × List ℕ) RecordFault} (λ (r : Result ((ℕ × ℕ × ℕ × ℕ) × List ℕ) ReaderFault). then (in_record r) (λ p. then (ruled at (activity_from events p.0)) (λ x. Ok (x, p.1)))) (four_back at (kind_number a.kind) a.tail a.head a.margin rest)
-    ∙ ap {B = Result (Activity × List ℕ) RecordFault} (λ (o : Option Activity). then (ruled at o) (λ x. Ok (x, rest))) (activity_made events a.kind a.tail a.head a.margin h)
-
--- a number under a rule: the period, and a step
-ruled_back : (test : ℕ → Bool) (at : Spot) (n : ℕ) (rest : List ℕ) → test n ≡ true → then (in_record (number_of at (number_bytes n ++ rest))) (λ p. ruled at (passed (test p.0) p)) ≡ Ok (n, rest)
-ruled_back test at n rest h =
-    ap {B = Result (ℕ × List ℕ) RecordFault} (λ (r : Result (ℕ × List ℕ) ReaderFault). then (in_record r) (λ p. ruled at (passed (test p.0) p))) (number_back at n rest)
-    ∙ ap {B = Result (ℕ × List ℕ) RecordFault} (λ (o : Option (ℕ × List ℕ)). ruled at o) (kept (test n) (n, rest) h)
-
-head_made : (class : Class) (parcels count : ℕ) → lot_keeps parcels count ≡ true → head_from (class_number class) parcels count ≡ Some (record { class = class; parcels = parcels; count = count })
-head_made Ordinary parcels count h = kept _ _ h
-head_made Express parcels count h = kept _ _ h
-
-head_back : (at : Spot) (class : Class) (parcels count : ℕ) (rest : List ℕ) → lot_keeps parcels count ≡ true
-    → head_of at (number_bytes (class_number class) ++ (number_bytes parcels ++ (number_bytes count ++ rest))) ≡ Ok (record { class = class; parcels = parcels; count = count }, rest)
-head_back at class parcels count rest h =
-    rw (back (class_number class), back parcels, back count)
-    (ap {B = Result (LotHead × List ℕ) RecordFault} (λ (o : Option LotHead). then (ruled at o) (λ x. Ok (x, rest))) (head_made class parcels count h))
-
 -- ---- one after another
 
 module _ {A S E : Type 0} (read : S → List ℕ → Result (A × List ℕ) E) (next : S → A → S) (each_bytes : A → List ℕ) (keeps : S → A → Bool) (all_keep : S → List A → Bool)
@@ -96,6 +50,55 @@ module _ {A S E : Type 0} (read : S → List ℕ → Result (A × List ℕ) E) (
       ap (run read next s (suc (length xs))) (append_assoc (each_bytes x) (flat_map each_bytes xs) rest)
       ∙ run_more read next s (length xs) (each_bytes x ++ (flat_map each_bytes xs ++ rest)) x (flat_map each_bytes xs ++ rest) (each s x (flat_map each_bytes xs ++ rest) k.0)
       ∙ ap (after (x ∷ [])) (run_back (next s x) xs rest k.1)
+
+numbers_back : (at : Spot) (ns rest : List ℕ) → numbers_of (length ns) at (flat_map number_bytes ns ++ rest) ≡ Ok (ns, rest)
+numbers_back at ns rest =
+    ap {B = Result (List ℕ × List ℕ) ReaderFault} whole_run
+    (run_back (number_in at) next_number number_bytes (λ i x. true) (λ i xs. true) (λ i x xs. refl) (λ i x xs h. number_back at x xs) 0 ns rest refl)
+
+-- ---- records
+
+-- a record that keeps its rule passes
+kept : {A : Type 0} (test : Bool) (x : A) → test ≡ true → passed test x ≡ Some x
+kept test x h = ap (λ (b : Bool). passed b x) h
+
+record_back : {A : Type 0} (make : List ℕ → Option A) (at : Spot) (ns : List ℕ) (x : A) (rest : List ℕ) → make ns ≡ Some x → record_of make (length ns) at (flat_map number_bytes ns ++ rest) ≡ Ok (x, rest)
+record_back {A = A} make at ns x rest m =
+    ap {B = Result (A × List ℕ) RecordFault} (λ (r : Result (List ℕ × List ℕ) ReaderFault). then (in_record r) (λ p. then (ruled at (make p.0)) (λ y. Ok (y, p.1)))) (numbers_back at ns rest)
+    ∙ ap {B = Result (A × List ℕ) RecordFault} (λ (o : Option A). then (ruled at o) (λ y. Ok (y, rest))) m
+
+event_made : (period truck site tolerance : ℕ) (side : Side) → event_keeps period (record { truck = truck; site = site; side = side; tolerance = tolerance }) ≡ true
+    → event_from period (truck ∷ site ∷ side_number side ∷ tolerance ∷ []) ≡ Some (record { truck = truck; site = site; side = side; tolerance = tolerance })
+event_made period truck site tolerance Arrival h = kept _ _ h
+event_made period truck site tolerance Departure h = kept _ _ h
+
+pub event_back : (period : ℕ) (at : Spot) (e : Event) (rest : List ℕ) → event_keeps period e ≡ true → event_of period at (event_bytes e ++ rest) ≡ Ok (e, rest)
+event_back period at e rest h = record_back (event_from period) at (event_numbers e) e rest (event_made period e.truck e.site e.tolerance e.side h)
+
+activity_made : (events : List Event) (kind : Kind) (tail head margin : ℕ) → activity_keeps events (record { kind = kind; tail = tail; head = head; margin = margin }) ≡ true
+    → activity_from events (kind_number kind ∷ tail ∷ head ∷ margin ∷ []) ≡ Some (record { kind = kind; tail = tail; head = head; margin = margin })
+activity_made events Drive tail head margin h = kept _ _ h
+activity_made events Stand tail head margin h = kept _ _ h
+activity_made events Transfer tail head margin h = kept _ _ h
+
+pub activity_back : (events : List Event) (at : Spot) (a : Activity) (rest : List ℕ) → activity_keeps events a ≡ true → activity_of events at (activity_bytes a ++ rest) ≡ Ok (a, rest)
+activity_back events at a rest h = record_back (activity_from events) at (activity_numbers a) a rest (activity_made events a.kind a.tail a.head a.margin h)
+
+period_back : (at : Spot) (n : ℕ) (rest : List ℕ) → period_keeps n ≡ true → period_of at (number_bytes n ++ rest) ≡ Ok (n, rest)
+period_back at n rest h = record_back period_from at (n ∷ []) n rest (kept (period_keeps n) n h)
+
+step_back : (activities : List Activity) (from : Option ℕ) (at : Spot) (n : ℕ) (rest : List ℕ) → step_keeps activities from n ≡ true → step_of activities from at (number_bytes n ++ rest) ≡ Ok (n, rest)
+step_back activities from at n rest h = record_back (step_from activities from) at (n ∷ []) n rest (kept (step_keeps activities from n) n h)
+
+head_made : (class : Class) (parcels count : ℕ) → lot_keeps parcels count ≡ true → head_from (class_number class ∷ parcels ∷ count ∷ []) ≡ Some (record { class = class; parcels = parcels; count = count })
+head_made Ordinary parcels count h = kept _ _ h
+head_made Express parcels count h = kept _ _ h
+
+head_back : (at : Spot) (class : Class) (parcels count : ℕ) (rest : List ℕ) → lot_keeps parcels count ≡ true
+    → head_of at (number_bytes (class_number class) ++ (number_bytes parcels ++ (number_bytes count ++ rest))) ≡ Ok (record { class = class; parcels = parcels; count = count }, rest)
+head_back at class parcels count rest h = record_back head_from at (class_number class ∷ parcels ∷ count ∷ []) _ rest (head_made class parcels count h)
+
+-- ---- sections
 
 counted_back : (section : Section) (cells : ℕ) (at : Spot) (n : ℕ) (rest : List ℕ) → fewest section ≤ n → n ≤ most section → n ≤ cells → counted section cells at (n, rest) ≡ Ok (n, rest)
 counted_back section cells at n rest l h r = rw (le-ltb n (fewest section) l, le-ltb (most section) n h, le-ltb cells n r)
@@ -154,7 +157,7 @@ module _ (activities : List Activity) (total cells : ℕ) where
       let s : steps_from activities lot total l.count (flat_map number_bytes own ++ rest) ≡ (own, Ok rest) =
       ap (λ (j : ℕ). steps_from activities lot total j (flat_map number_bytes own ++ rest)) (sym n)
       ∙ run_back (lot_step activities lot total) (step_on activities) number_bytes (step_keeps activities) (path_keeps activities) (λ s x xs. refl)
-      (λ s x xs. ruled_back (step_keeps activities s) (spot_at Lots lot total (number_bytes x ++ xs)) x xs) None own rest p in
+      (λ s x xs. step_back activities s (spot_at Lots lot total (number_bytes x ++ xs)) x xs) None own rest p in
       ap (lot_after activities total cells lot used at) h
       ∙ ap (lot_in activities total lot used (head, flat_map number_bytes own ++ rest)) (room_back at cells used l.count b r)
       ∙ ap (lot_with used head) s
@@ -219,7 +222,7 @@ module _ (t : Tables) (h : well_formed t ≡ true) (room : Room) (r : HasRoom ro
       let x₁ = section_bytes event_bytes t.events ++ x₂ in
       let terms : terms_of total (bytes_of t) ≡ Ok (t.period, x₁) =
       ap {B = Result (ℕ × List ℕ) SheetFault} (λ (o : Result (ℕ × List ℕ) SheetFault). then o (λ p. in_sheet (period_of (spot_at Terms 0 total p.1) p.1))) (count_back Terms total 1 1 (number_bytes t.period ++ x₁) (omega arith) (omega arith) (omega arith))
-      ∙ ap {B = Result (ℕ × List ℕ) SheetFault} (λ (o : Result (ℕ × List ℕ) RecordFault). in_sheet o) (ruled_back period_keeps (spot_at Terms 0 total (number_bytes t.period ++ x₁)) t.period x₁ k.period) in
+      ∙ ap {B = Result (ℕ × List ℕ) SheetFault} (λ (o : Result (ℕ × List ℕ) RecordFault). in_sheet o) (period_back (spot_at Terms 0 total (number_bytes t.period ++ x₁)) t.period x₁ k.period) in
       let events = section_back (event_of t.period) event_bytes (event_keeps t.period) (event_back t.period) Events total room.events t.events x₂ s.0 s.1 r.0.0 k.events in
       let activities = section_back (activity_of t.events) activity_bytes (activity_keeps t.events) (activity_back t.events) Activities total room.activities t.activities x₃ (omega arith) s.2 r.0.1 k.activities in
       let lots = lots_section_back t.activities total room.steps room.lots t.lots t.steps k.lots s.3 r.1.0 s.4 r.1.1 in

@@ -1,3 +1,4 @@
 pub mod Putting
 pub mod Sizes
 pub mod Back
+pub mod Sections

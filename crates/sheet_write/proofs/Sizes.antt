@@ -1,15 +1,13 @@
 -- How many bytes a sheet has, and its lots' stretches one by one.
 use Rattle.std.proofs.Common.{◌≡◌, ℕ, suc, ◌+◌, ◌*◌, true, List, [], ◌∷◌, ◌++◌, length, take, drop, sym, refl, ap, ◌∙◌, arith, length-append, length-drop}
-use Rattle.std.specs.List.{flat_map, AllByRecursion as All}
+use Rattle.std.specs.List.{flat_map}
 use Rattle.std.proofs.lemmas.List.{drop-drop, length-take-le}
 use Rattle.std.proofs.lemmas.Bool.{eqb-true}
-use Rattle.std.proofs.ByRecursion.{All-from_get_or}
 use Rattle.sheet.specs.declared.records.Activity.{Activity}
 use Rattle.sheet.specs.declared.records.Lot.{Lot}
-use Rattle.sheet.specs.Rules.{Tables, no_lot, stretch, lots_keep, well_formed}
+use Rattle.sheet.specs.Rules.{Tables, stretch, lots_keep, well_formed}
 use Rattle.sheet.specs.Bytes.{number_bytes, event_bytes, activity_bytes, lot_bytes, section_bytes, bytes_of}
-use Rattle.sheet.proofs.Stretches.{kept_of, first_of, within_steps}
-use Rattle.sheet_write.specs.Writing.{Within}
+use Rattle.sheet.proofs.Stretches.{kept_of, first_of}
 
 -- items of k bytes each
 pub joined_length : {X : Type 0} (f : X → List ℕ) (k : ℕ) → ((x : X) → length (f x) ≡ k) → (xs : List X) → length (flat_map f xs) ≡ k * length xs
@@ -52,7 +50,3 @@ bytes_length t h =
     let e = joined_length event_bytes 8 (λ x. refl) t.events in
     let a = joined_length activity_bytes 8 (λ x. refl) t.activities in
     omega (arith, parts_length t, l, e, a)
-
-pub all_within : (t : Tables) → well_formed t ≡ true → All (Within t.steps) t.lots
-all_within t h =
-    All-from_get_or (Within t.steps) t.lots no_lot (λ i k. let w = within_steps t.activities 0 t.lots t.steps (kept_of t h).lots i no_lot k in omega (arith, w))

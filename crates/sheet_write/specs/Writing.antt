@@ -3,17 +3,12 @@
 --   written_of      how many bytes were written, or that the buffer is too short
 --   write_number    the number of the refusal
 --   ReadsBack       bytes that are read as a sheet again
---   Within          a lot's stretch lies within the step table
-use Rattle.std.specs.Prelude.{◌≡◌, ℕ, ◌+◌, ◌≤◌, cond, List, length, Ok, Err, Result, nat_lt}
-use Rattle.sheet.specs.declared.records.Lot.{Lot}
+use Rattle.std.specs.Prelude.{◌≡◌, ℕ, ◌≤◌, cond, List, length, Ok, Err, Result, nat_lt}
 use Rattle.sheet.specs.Rules.{Tables}
 use Rattle.sheet.specs.Bytes.{bytes_of}
 use Rattle.sheet_read.specs.Sheets.{Room, Reading, extent, reading_of}
 use Rattle.sheet_write.specs.declared.write.WriteFault.{WriteFault}
 use Rattle.sheet_write.specs.declared.write.WriteFault.TheVariants.{Short}
-
-abbrev pub Within : List ℕ → Lot → Type 0
-Within steps l = l.first + l.count ≤ length steps
 
 abbrev pub write_number : WriteFault → ℕ
 write_number (Short needed) = 8

@@ -1,5 +1,5 @@
 //! Writing a sheet back as bytes.
 #![tactic(auto)]
 
-mod put;
+mod page;
 pub mod write;

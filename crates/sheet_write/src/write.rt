@@ -1,13 +1,11 @@
 //! Writing a whole sheet into a buffer.
-ghost use Rattle.std.specs.Prelude.{◌≡◌, ℕ, ◌+◌, ◌≤◌, length, take, is_ok, IfOk, if◌then◌else◌};
-ghost use Rattle.std.specs.List.{flat_map, AllByRecursion};
-ghost use Rattle.sheet.specs.Bytes.{lot_bytes, bytes_of};
+ghost use Rattle.std.specs.Prelude.{◌≡◌, ◌≤◌, length, take, is_ok, IfOk, if◌then◌else◌};
+ghost use Rattle.sheet.specs.Bytes.{bytes_of};
 ghost use Rattle.sheet.specs.Laid.{laid};
 ghost use Rattle.sheet.specs.Sheets.{tables_of};
-ghost use Rattle.sheet_write.specs.Writing.{ReadsBack, Within, written_of, write_number};
+ghost use Rattle.sheet_write.specs.Writing.{ReadsBack, written_of, write_number};
 
-use crate::put::{class_number, put_all, put_number, put_section};
-use sheet::records::Lot;
+use crate::page::Page;
 use sheet::sheet::Sheet;
 
 /// Why a sheet is not written.
@@ -28,32 +26,6 @@ impl WriteFault {
     }
 }
 
-/// Puts a lot: its three numbers, then its steps.
-fn put_lot(lot: Lot, steps: &[u16], out: &mut [u8], at: usize) -> usize
-    requires { (Within steps.now lot) × (at + length (lot_bytes steps.now lot) ≤ length out.old) }
-    ensures answer { result ≡ at + length (lot_bytes steps.now lot) }
-    ensures bytes { out.new ≡ laid at (lot_bytes steps.now lot) out.old }
-{
-    let at = put_number(out, at, class_number(lot.class));
-    let at = put_number(out, at, lot.parcels);
-    let at = put_number(out, at, lot.count);
-    let first = usize::from(lot.first);
-    put_all(&steps[first..first + usize::from(lot.count)], out, at)
-}
-
-/// Puts the lots, one after another.
-fn put_lots(lots: &[Lot], steps: &[u16], out: &mut [u8], at: usize) -> usize
-    requires { (AllByRecursion (Within steps.now) lots.now) × (at + length (flat_map (lot_bytes steps.now) lots.now) ≤ length out.old) }
-    ensures answer { result ≡ at + length (flat_map (lot_bytes steps.now) lots.now) }
-    ensures bytes { out.new ≡ laid at (flat_map (lot_bytes steps.now) lots.now) out.old }
-{
-    let mut at = at;
-    for lot in lots {
-        at = put_lot(*lot, steps, out, at);
-    }
-    at
-}
-
 /// How many bytes a sheet has.
 fn size_of(sheet: &Sheet) -> usize
     ensures { result ≡ length (bytes_of (tables_of sheet.now)) }
@@ -63,20 +35,17 @@ fn size_of(sheet: &Sheet) -> usize
         + 2 * sheet.steps.len()
 }
 
-/// Puts a sheet's sections into the front of `out`, if they have room there.
-fn fill_buffer(sheet: &Sheet, out: &mut [u8]) -> Result<usize, WriteFault>
-    ensures answer { result ≡ written_of (tables_of sheet.now) (length out.old) }
-    ensures bytes { out.new ≡ (if is_ok result then laid 0 (bytes_of (tables_of sheet.now)) out.old else out.old) }
+/// Fills the front of `out` with a sheet's four sections.
+fn fill(sheet: &Sheet, out: &mut [u8])
+    requires { length (bytes_of (tables_of sheet.now)) ≤ length out.old }
+    ensures { out.new ≡ laid 0 (bytes_of (tables_of sheet.now)) out.old }
 {
-    let needed = size_of(sheet);
-    if out.len() < needed {
-        return Err(WriteFault::Short { needed });
-    }
-    let at = put_section(&[sheet.period], out, 0);
-    let at = put_section(sheet.events, out, at);
-    let at = put_section(sheet.activities, out, at);
-    let at = put_number(out, at, sheet.lots.len() as u16);
-    Ok(put_lots(sheet.lots, sheet.steps, out, at))
+    let mut page = Page::new(out);
+    // The terms are one record, the period.
+    page.put_numbers(&[1, sheet.period]);
+    page.put_section(sheet.events);
+    page.put_section(sheet.activities);
+    page.put_lots(sheet.lots, sheet.steps);
 }
 
 /// Writes a sheet into the front of `out`; answers how many bytes it has.
@@ -86,5 +55,10 @@ pub fn write_sheet(sheet: &Sheet, out: &mut [u8]) -> Result<usize, WriteFault>
     ensures bytes { out.new ≡ (if is_ok result then laid 0 (bytes_of (tables_of sheet.now)) out.old else out.old) }
     ensures read_back { IfOk result (λ n. ReadsBack (tables_of sheet.now) (take n out.new)) }
 {
-    fill_buffer(sheet, out)
+    let needed = size_of(sheet);
+    if out.len() < needed {
+        return Err(WriteFault::Short { needed });
+    }
+    fill(sheet, out);
+    Ok(needed)
 }

@@ -12,8 +12,8 @@ module _ {A : Type 0} (t : Tolls A) where
   pub nought_light : LawfulTolls t → (w : ℕ → ℕ) (s : A) → s ≡ t.nought → t.bulk s ≤ total numbers 0 w
   nought_light laws w s is = omega (arith, laws.light, ap t.bulk is)
 
-  pub total_all : (f : ℕ → A) (k n : ℕ) (s : A) → s ≡ total t k f → k ≡ n → s ≡ total t n f
-  total_all f k n s is all = is ∙ ap (λ j. total t j f) all
+  pub plus_light : LawfulTolls t → (sum due r : A) (weight : ℕ) → r ≡ t.plus sum due → t.bulk due ≤ weight → t.bulk r ≤ t.bulk sum + weight
+  plus_light laws sum due r weight is light = omega (arith, laws.sum_bulk sum due, ap t.bulk is)
 
   pub total_more : (f : ℕ → A) (k : ℕ) (s r : A) → s ≡ total t k f → r ≡ t.plus s (f k) → r ≡ total t (k + 1) f
   unfolding total
@@ -34,9 +34,6 @@ pub numbers_bound : (w : ℕ → ℕ) (n each : ℕ) → ((i : ℕ) → i < n �
 unfolding total
 numbers_bound w zero each h = omega arith
 numbers_bound w (suc n) each h = omega (arith, numbers_bound w n each (λ i k. h i (omega arith)), h n (omega arith), suc-mul n each)
-
-pub weight_all : (w : ℕ → ℕ) (k n bulk : ℕ) → bulk ≤ total numbers k w → k ≤ n → bulk ≤ total numbers n w
-weight_all w k n bulk light h = omega (arith, numbers_rising w k n h)
 
 -- room for one weight more
 pub weight_fits : (w : ℕ → ℕ) (n k most bulk : ℕ) → total numbers n w ≤ most → k < n → bulk ≤ total numbers k w → bulk + w k ≤ most

@@ -18,9 +18,6 @@ few_parcels activities first (l ∷ ls) steps h (suc i) k =
 few_lots : (t : Tables) → well_formed t ≡ true → length t.lots ≤ 512
 few_lots t h = let sizes = (kept_of t h).sizes in grind (arith, nat_tests)
 
-pub short_period : (t : Tables) → well_formed t ≡ true → t.period ≤ 1440
-short_period t h = let keeps = (kept_of t h).period in grind (arith, nat_tests)
-
 pub light_sheet : (t : Tables) → well_formed t ≡ true → lots_weight t.lots ≤ sheet_bulk
 light_sheet t h =
     let each : (i : ℕ) → i < length t.lots → paid_at lot_weight t.lots i ≤ 1440 * 65535 =

@@ -10,7 +10,7 @@ use sheet::sheet::Sheet;
 use tariff::charges::Tariff;
 
 /// Each lot ends so many minutes late.
-#[derive(Clone, Copy)]
+#[derive(Clone, Copy, PartialEq, Eq, Debug)]
 pub struct LateBy {
     pub minutes: u16,
 }
@@ -21,12 +21,13 @@ impl<T: Tariff> Charge<T> for LateBy {
     ghost pays = { λ way tariff lot. late_charge (T.Tariff.prices tariff) way.minutes lot };
 
     fn charge(&self, tariff: &T, lot: Lot) -> T::Toll {
-        tariff.late(lot.class, lot.parcels as u32, self.minutes)
+        tariff.late(lot.class, u32::from(lot.parcels), self.minutes)
     }
 }
 
+// A type of its own beside `LateBy`: they name different calls and prices, so a common type would need a trait or a switch for one line.
 /// Each lot misses a connection and loses so many minutes.
-#[derive(Clone, Copy)]
+#[derive(Clone, Copy, PartialEq, Eq, Debug)]
 pub struct Missing {
     pub minutes: u16,
 }
@@ -37,7 +38,7 @@ impl<T: Tariff> Charge<T> for Missing {
     ghost pays = { λ way tariff lot. miss_charge (T.Tariff.prices tariff) way.minutes lot };
 
     fn charge(&self, tariff: &T, lot: Lot) -> T::Toll {
-        tariff.miss(lot.class, lot.parcels as u32, self.minutes)
+        tariff.miss(lot.class, u32::from(lot.parcels), self.minutes)
     }
 }
 

@@ -14,6 +14,7 @@ pub trait Charge<T: Tariff> {
     /// What the lot pays.
     ghost pays: { Self → T → Lot → T.Toll };
 
+    /// Answers what the lot pays.
     fn charge(&self, tariff: &T, lot: Lot) -> T::Toll
         requires { can self.now tariff.now lot }
         ensures answer { result ≡ pays self.now tariff.now lot }

@@ -3,6 +3,5 @@
 
 pub mod all_alike;
 pub mod charge;
-pub mod plain_sums;
 pub mod sheet_sum;
 pub mod sum;

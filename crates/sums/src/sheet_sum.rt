@@ -1,21 +1,12 @@
 //! The sum of charges over all the lots of a sheet, for which there is always room.
 ghost use Rattle.std.specs.Prelude.{◌≡◌, ◌≤◌};
 ghost use Rattle.sheet.specs.Sheets.{tables_of};
-ghost use Rattle.sums.specs.Totals.{Each, lots_total, lots_weight, sheet_bulk};
+ghost use Rattle.sums.specs.Totals.{Each, lots_total, sheet_bulk};
 
 use crate::charge::Charge;
 use crate::sum::sum_charges;
-use sheet::records::Lot;
 use sheet::sheet::Sheet;
 use tariff::charges::Tariff;
-
-/// The lots of a sheet, which are few and light enough to be summed.
-fn lots_of<'a>(sheet: &Sheet<'a>) -> &'a [Lot]
-    ensures answer { result.now ≡ (tables_of sheet.now).lots }
-    ensures light { lots_weight result.now ≤ sheet_bulk }
-{
-    sheet.lots
-}
 
 /// What all the lots of a sheet pay.
 pub fn sum_sheet<T: Tariff, C: Charge<T>>(tariff: &T, charge: &C, sheet: &Sheet) -> T::Toll
@@ -23,5 +14,5 @@ pub fn sum_sheet<T: Tariff, C: Charge<T>>(tariff: &T, charge: &C, sheet: &Sheet)
     ensures answer { result ≡ lots_total (T.prices tariff.now).tolls (C.pays charge.now tariff.now) (tables_of sheet.now).lots }
     ensures light { (T.prices tariff.now).tolls.bulk result ≤ sheet_bulk }
 {
-    sum_charges(tariff, charge, lots_of(sheet))
+    sum_charges(tariff, charge, sheet.lots)
 }

@@ -1,22 +1,11 @@
 //! The one loop that sums charges.
-ghost use Rattle.std.specs.Prelude.{◌≡◌, ◌+◌, ◌≤◌};
+ghost use Rattle.std.specs.Prelude.{◌≡◌, ◌≤◌};
 ghost use Rattle.tariff.specs.Tolls.{cap};
-ghost use Rattle.sums.specs.Totals.{Each, lot_weight, lots_total, lots_weight};
+ghost use Rattle.sums.specs.Totals.{Each, lots_total, lots_weight};
 
 use crate::charge::Charge;
 use sheet::records::Lot;
 use tariff::charges::Tariff;
-
-/// A sum and one lot's charge more.
-fn with_lot<T: Tariff, C: Charge<T>>(tariff: &T, charge: &C, sum: T::Toll, lot: Lot) -> T::Toll
-    requires able { C.can charge.now tariff.now lot }
-    requires room { (T.prices tariff.now).tolls.bulk sum + lot_weight lot ≤ cap }
-    ensures answer { result ≡ (T.prices tariff.now).tolls.plus sum (C.pays charge.now tariff.now lot) }
-    ensures light { (T.prices tariff.now).tolls.bulk result ≤ (T.prices tariff.now).tolls.bulk sum + lot_weight lot }
-{
-    let due = charge.charge(tariff, lot);
-    tariff.add(sum, due)
-}
 
 /// The sum of what the lots pay, in any tariff's toll. The lots' weight has to be within what may be summed.
 pub fn sum_charges<T: Tariff, C: Charge<T>>(tariff: &T, charge: &C, lots: &[Lot]) -> T::Toll
@@ -27,7 +16,8 @@ pub fn sum_charges<T: Tariff, C: Charge<T>>(tariff: &T, charge: &C, lots: &[Lot]
 {
     let mut sum = tariff.nought();
     for lot in lots {
-        sum = with_lot(tariff, charge, sum, *lot);
+        let due = charge.charge(tariff, *lot);
+        sum = tariff.add(sum, due);
     }
     sum
 }

@@ -5,6 +5,7 @@ ghost use Rattle.tariff.specs.Prices.{Prices, LawfulPrices};
 
 use sheet::records::Class;
 
+// A tariff sums and compares by its own calls, not by its toll's type: another tariff may order numbers the other way round.
 /// Charges lots in a toll of its own kind. Its calls answer what its prices mean, and alter nothing.
 pub trait Tariff {
     /// What is charged, summed and compared.
@@ -18,6 +19,7 @@ pub trait Tariff {
         ensures { result ≡ (prices self.now).tolls.nought };
 
     /// What a lot pays that ends so many minutes late.
+    // the bound is a clause and no type of minutes: a type would ask callers to make one
     fn late(&self, class: Class, parcels: u32, minutes: u16) -> Self::Toll
         requires { minutes ≤ 1440 }
         ensures { result ≡ (prices self.now).late class parcels minutes };

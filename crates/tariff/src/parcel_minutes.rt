@@ -8,14 +8,14 @@ use crate::charges::Tariff;
 use sheet::records::Class;
 
 /// Charges parcels × minutes, whatever the class.
-#[derive(Clone, Copy)]
+#[derive(Clone, Copy, PartialEq, Eq, Debug)]
 pub struct ParcelMinutes;
 
 /// Parcels × minutes.
 pub fn parcel_minutes(parcels: u32, minutes: u16) -> u64
     ensures { result ≡ parcels * minutes }
 {
-    parcels as u64 * minutes as u64
+    u64::from(parcels) * u64::from(minutes)
 }
 
 impl Tariff for ParcelMinutes {

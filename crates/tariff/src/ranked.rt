@@ -9,11 +9,11 @@ use sheet::records::Class;
 use std::fmt;
 
 /// Charges parcels × minutes to the class of the lot.
-#[derive(Clone, Copy)]
+#[derive(Clone, Copy, PartialEq, Eq, Debug)]
 pub struct Ranked;
 
-/// Parcel-minutes by class.
-#[derive(Clone, Copy, PartialEq, Eq, Debug)]
+/// Parcel-minutes by class, ordered by the express ones first.
+#[derive(Clone, Copy, PartialEq, Eq, PartialOrd, Ord, Default, Debug)]
 pub struct RankedToll {
     pub express: u64,
     pub ordinary: u64,
@@ -51,7 +51,7 @@ impl Tariff for Ranked {
         } };
 
     fn nought(&self) -> RankedToll {
-        of_class(Class::Ordinary, 0)
+        RankedToll::default()
     }
 
     fn late(&self, class: Class, parcels: u32, minutes: u16) -> RankedToll {
@@ -70,7 +70,7 @@ impl Tariff for Ranked {
     }
 
     fn at_most(&self, a: RankedToll, b: RankedToll) -> bool {
-        a.express < b.express || a.express == b.express && a.ordinary <= b.ordinary
+        a <= b
     }
 }
 
@@ -78,8 +78,6 @@ impl fmt::Display for RankedToll {
     ghost output = { λ toll. Some (as_pair toll) };
 
     fn fmt<W: fmt::Write>(&self, f: &mut fmt::Formatter<W>) -> fmt::Result {
-        let express = self.express;
-        let ordinary = self.ordinary;
-        write!(f, "({express}, {ordinary})")
+        write!(f, "({}, {})", self.express, self.ordinary)
     }
 }

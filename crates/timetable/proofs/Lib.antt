@@ -4,3 +4,4 @@ pub mod Cells
 pub mod Sources
 pub mod Ways
 pub mod Strides
+pub mod Hindrances

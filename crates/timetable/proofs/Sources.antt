@@ -1,5 +1,5 @@
 -- Sources counted, and the first that passes.
-use Rattle.std.proofs.Common.{◌≡◌, ℕ, ◌+◌, ◌<◌, ◌≤◌, Bool, true, false, cond, ◌&&◌, eqb, ltb, ◌⊎◌, length, get_or, Some, None, sym, refl, ap, ◌∙◌, inl, inr, add-one, arith}
+use Rattle.std.proofs.Common.{◌≡◌, ℕ, zero, suc, List, [], ◌∷◌, ◌++◌, ◌+◌, ◌<◌, ◌≤◌, Bool, true, false, cond, ◌&&◌, eqb, ltb, ◌⊎◌, length, get_or, Option, Some, None, sym, refl, ap, ◌∙◌, inl, inr, arith}
 use Rattle.std.proofs.lemmas.Bool.{cases_lt, lt-ltb, le-ltb, cond-true, cond-false, both_ways}
 use Rattle.model.specs.Yard.{event_count, activity_count, head, noted}
 use Rattle.model.specs.Finite.{count, first, Lowest}
@@ -9,42 +9,42 @@ use Rattle.sheet.specs.Rules.{activity_at}
 use Rattle.timetable.specs.declared.day.Day.{Day}
 use Rattle.timetable.specs.Days.{yard_of}
 use Rattle.timetable.specs.Found.{below, found_first}
+use Rattle.std.specs.Option.{MatchOption}
+use Rattle.std.specs.List.{range_with_len, filter, count_by, AllWithin, HoldsAt}
+use Rattle.std.proofs.lemmas.List.Sums.{length-filter, sum_by-append}
 
 -- a live activity comes into its head
-pub into_live : (rule : ℕ → ℕ → ℕ) (d : Day) (e a h : ℕ) → live (yard_of rule d) a ≡ true → h ≡ (activity_at d.activities.now a).head → eqb h e ≡ into (yard_of rule d) e a
+pub into_live : (rule : ℕ → ℕ → ℕ) (d : Day) (e a h : ℕ) → live (yard_of rule d) a ≡ true → h ≡ (activity_at d.sheet.activities.now a).head → eqb h e ≡ into (yard_of rule d) e a
 unfolding head
-into_live rule d e a h l k = ap (λ (j : ℕ). eqb j e) k ∙ sym (ap (λ (b : Bool). b && eqb (activity_at d.activities.now a).head e) l)
+into_live rule d e a h l k = ap (λ (j : ℕ). eqb j e) k ∙ sym (ap (λ (b : Bool). b && eqb (activity_at d.sheet.activities.now a).head e) l)
 
-pub count_none : (t : ℕ → Bool) → 0 ≡ count 0 t
-unfolding count
-count_none t = refl
+-- the activities counted, from the first to the last
+range_more : (a n : ℕ) → range_with_len a (suc n) ≡ range_with_len a n ++ ((a + n) ∷ [])
+range_more a zero = let e : a ≡ a + 0 = omega arith in ap (λ (k : ℕ). k ∷ []) e
+range_more a (suc n) =
+    let e : (a + 1) + n ≡ a + suc n = omega arith in
+    ap (λ (s : List ℕ). a ∷ s) (range_more (a + 1) n ∙ ap (λ (k : ℕ). range_with_len (a + 1) n ++ (k ∷ [])) e)
 
-pub count_more : (n i : ℕ) (t : ℕ → Bool) → t i ≡ true → n ≡ count i t → n + 1 ≡ count (i + 1) t
-unfolding count
-count_more n i t h e = rw (add-one i, h, e)
+counted_one : (t : ℕ → Bool) (xs : List ℕ) (y : ℕ) → count_by t (xs ++ (y ∷ [])) ≡ count_by t xs + cond (t y) 1 0
+counted_one t xs y = sum_by-append (λ x. cond (t x) 1 0) xs (y ∷ []) ∙ omega arith
 
-pub count_skip : (n i : ℕ) (t : ℕ → Bool) → t i ≡ false → n ≡ count i t → n ≡ count (i + 1) t
+counted_by : (t : ℕ → Bool) (n : ℕ) → count_by t (range_with_len 0 n) ≡ count n t
 unfolding count
-count_skip n i t h e = rw (add-one i, h, e) (omega arith)
+counted_by t zero = refl
+counted_by t (suc n) =
+    ap (count_by t) (range_more 0 n) ∙ counted_one t (range_with_len 0 n) (0 + n)
+    ∙ ap (λ (k : ℕ). k + cond (t (0 + n)) 1 0) (counted_by t n) ∙ ap (λ (k : ℕ). count n t + cond (t k) 1 0) (omega arith)
+
+pub counted : (t : ℕ → Bool) (n : ℕ) → length (filter t (range_with_len 0 n)) ≡ count n t
+counted t n = length-filter t (range_with_len 0 n) ∙ counted_by t n
 
 -- an event's sources: those counted, and its own delay
-pub sources_are : (rule : ℕ → ℕ → ℕ) (d : Day) (e n : ℕ) → e < length d.events.now → n ≡ count (length d.activities.now) (into (yard_of rule d) e)
+pub sources_are : (rule : ℕ → ℕ → ℕ) (d : Day) (e n : ℕ) → e < length d.sheet.events.now → n ≡ count (length d.sheet.activities.now) (into (yard_of rule d) e)
     → n + cond (ltb 0 (get_or d.delays.now e 0)) 1 0 ≡ sources (yard_of rule d) e
 unfolding sources activity_count noted event_count
 sources_are rule d e n h k =
     ap (λ (j : ℕ). j + cond (ltb 0 (get_or d.delays.now e 0)) 1 0) k
-    ∙ ap (λ (m : ℕ). count (length d.activities.now) (into (yard_of rule d) e) + cond (ltb 0 m) 1 0) (sym (cond-true (ltb e (length d.events.now)) (get_or d.delays.now e 0) 0 (lt-ltb e (length d.events.now) h)))
-
-pub sources_noted : (rule : ℕ → ℕ → ℕ) (d : Day) (e n : ℕ) → e < length d.events.now → n ≡ count (length d.activities.now) (into (yard_of rule d) e)
-    → 0 < get_or d.delays.now e 0 → n + 1 ≡ sources (yard_of rule d) e
-sources_noted rule d e n h k p =
-    ap (λ (j : ℕ). n + j) (sym (cond-true (ltb 0 (get_or d.delays.now e 0)) 1 0 (lt-ltb 0 (get_or d.delays.now e 0) p))) ∙ sources_are rule d e n h k
-
-pub sources_quiet : (rule : ℕ → ℕ → ℕ) (d : Day) (e n : ℕ) → e < length d.events.now → n ≡ count (length d.activities.now) (into (yard_of rule d) e)
-    → get_or d.delays.now e 0 ≤ 0 → n ≡ sources (yard_of rule d) e
-sources_quiet rule d e n h k p =
-    let z : n ≡ n + 0 = omega arith in
-    z ∙ ap (λ (j : ℕ). n + j) (sym (cond-false (ltb 0 (get_or d.delays.now e 0)) 1 0 (le-ltb 0 (get_or d.delays.now e 0) p))) ∙ sources_are rule d e n h k
+    ∙ ap (λ (m : ℕ). count (length d.sheet.activities.now) (into (yard_of rule d) e) + cond (ltb 0 m) 1 0) (sym (cond-true (ltb e (length d.sheet.events.now)) (get_or d.delays.now e 0) 0 (lt-ltb e (length d.sheet.events.now) h)))
 
 -- the first that passes, by one that does with none below
 pub first_at : (n k : ℕ) (t : ℕ → Bool) → k < n → t k ≡ true → ((i : ℕ) → i < k → t i ≡ false) → Some k ≡ found_first n t
@@ -64,3 +64,14 @@ first_none n t b = go (cases_lt (first n t) n)
     go : (first n t < n) ⊎ (n ≤ first n t) → None ≡ found_first n t
     go (inl x) = absurd (both_ways (t (first n t)) (b (first n t) x) ((first_lowest n t).passes x))
     go (inr x) = sym (cond-false (ltb (first n t) n) (Some (first n t)) None (le-ltb (first n t) n x))
+
+-- what a search through 0 .. n - 1 says of the number that it found
+pub found_by : (n : ℕ) (t : ℕ → Bool) (r : Option ℕ) → MatchOption r ((k : ℕ) → 0 ≤ k → k < n → t k ≡ false) (λ i. (0 ≤ i) × (i < n) × (t i ≡ true) × ((k : ℕ) → 0 ≤ k → k < i → t k ≡ false)) → r ≡ found_first n t
+found_by n t None h = first_none n t (λ i w. h i (omega arith) w)
+found_by n t (Some k) h = first_at n k t h.1 h.2 (λ i w. h.3 i (omega arith) w)
+
+-- what a search through a list says of the place that it found, where the list's items pass by their numbers
+pub found_in : {X : Type 0} (n : ℕ) (t : ℕ → Bool) (u : X → Bool) (xs : List X) (d : X) → n ≡ length xs → ((i : ℕ) → i < n → t i ≡ u (get_or xs i d)) → (r : Option ℕ)
+    → MatchOption r (AllWithin (λ x. u x ≡ false) xs 0 (length xs)) (λ i. (i < length xs) × HoldsAt (λ x. u x ≡ true) xs i × AllWithin (λ x. u x ≡ false) xs 0 i) → r ≡ found_first n t
+found_in n t u xs d e s None h = first_none n t (λ i w. s i w ∙ h i d (omega arith) (omega (arith, e)))
+found_in n t u xs d e s (Some k) h = first_at n k t (omega (arith, h.0, e)) (s k (omega (arith, h.0, e)) ∙ h.1 d) (λ i w. s i (omega (arith, h.0, e, w)) ∙ h.2 i d (omega arith) w)

@@ -13,10 +13,10 @@ use Rattle.model.specs.Yard.{handed, tail, transfer, struck, unmarked, is_transf
 use Rattle.model.specs.Lateness.{Choice, binds, worst}
 use Rattle.model.specs.Meeting.{live}
 use Rattle.model.proofs.OnSheets.{every_at, activity_parts}
-use Rattle.timetable.specs.declared.day.Stance.{Stance}
-use Rattle.timetable.specs.declared.day.Stance.TheVariants.{Bound, Open, Gone}
+use Rattle.timetable.specs.declared.day.stance.Stance.{Stance}
+use Rattle.timetable.specs.declared.day.stance.Stance.TheVariants.{Bound, Open, Gone}
 use Rattle.timetable.specs.declared.day.Day.{Day}
-use Rattle.timetable.specs.Days.{Ready, sheet_on, yard_of, mark_on, marked, no_mark, tried, by_mark, stance_of, stance_at}
+use Rattle.timetable.specs.Days.{sheet_on, yard_of, mark_on, marked, no_mark, tried, by_mark, stance_of, stance_at}
 
 -- whether an activity binds, by how it stands and what the choice says
 abbrev pub binding : Stance → Bool → Bool
@@ -44,13 +44,13 @@ stands_so Drive m t = refl
 stands_so Stand m t = refl
 stands_so Transfer m t = refl
 
-pub binds_by : (rule : ℕ → ℕ → ℕ) (d : Day) (z : Choice) (a : ℕ) → binds (yard_of rule d) z a ≡ binding (stance_at d.activities.now d.marks.now d.trial a) (z a)
+pub binds_by : (rule : ℕ → ℕ → ℕ) (d : Day) (z : Choice) (a : ℕ) → binds (yard_of rule d) z a ≡ binding (stance_at d.sheet.activities.now d.marks.now d.trial a) (z a)
 unfolding transfer struck unmarked
 binds_by rule d z a =
-    by_kind (activity_at d.activities.now a).kind (mark_on d.marks.now d.trial a) (z a)
-    ∙ ap (λ (s : Stance). binding s (z a)) (stands_so (activity_at d.activities.now a).kind (get_or d.marks.now a no_mark).mark (tried d.trial a))
+    by_kind (activity_at d.sheet.activities.now a).kind (mark_on d.marks.now d.trial a) (z a)
+    ∙ ap (λ (s : Stance). binding s (z a)) (stands_so (activity_at d.sheet.activities.now a).kind (get_or d.marks.now a no_mark).mark (tried d.trial a))
 
-pub handed_is : (rule : ℕ → ℕ → ℕ) (d : Day) (a lateness : ℕ) → handed (yard_of rule d) a lateness ≡ rule (activity_at d.activities.now a).margin lateness
+pub handed_is : (rule : ℕ → ℕ → ℕ) (d : Day) (a lateness : ℕ) → handed (yard_of rule d) a lateness ≡ rule (activity_at d.sheet.activities.now a).margin lateness
 unfolding handed
 handed_is rule d a lateness = refl
 
@@ -61,18 +61,18 @@ margin_kept events a h =
     let w = and_parts (leb a.margin 1440) (ends_fit a.kind (event_at events a.tail) (event_at events a.head)) y.1 in
     leb-true a.margin 1440 w.0
 
-pub margin_short : (d : Day) → Ready d → (a : ℕ) → a < length d.activities.now → (activity_at d.activities.now a).margin ≤ 1440
-margin_short d r a h =
-    margin_kept d.events.now (activity_at d.activities.now a) (every_at (activity_keeps d.events.now) d.activities.now (kept_of (sheet_on d) r.formed).activities a no_activity h)
+pub margin_short : (d : Day) (a : ℕ) → a < length d.sheet.activities.now → (activity_at d.sheet.activities.now a).margin ≤ 1440
+margin_short d a h =
+    margin_kept d.sheet.events.now (activity_at d.sheet.activities.now a) (every_at (activity_keeps d.sheet.events.now) d.sheet.activities.now (kept_of (sheet_on d) d.sheet.kept).activities a no_activity h)
 
 -- an activity leads from a lower to a higher event of the sheet
-pub leads : (d : Day) → Ready d → (a : ℕ) → a < length d.activities.now → ((activity_at d.activities.now a).tail < (activity_at d.activities.now a).head) × ((activity_at d.activities.now a).head < length d.events.now)
-leads d r a h =
-    activity_parts d.events.now (activity_at d.activities.now a) (every_at (activity_keeps d.events.now) d.activities.now (kept_of (sheet_on d) r.formed).activities a no_activity h)
+pub leads : (d : Day) (a : ℕ) → a < length d.sheet.activities.now → ((activity_at d.sheet.activities.now a).tail < (activity_at d.sheet.activities.now a).head) × ((activity_at d.sheet.activities.now a).head < length d.sheet.events.now)
+leads d a h =
+    activity_parts d.sheet.events.now (activity_at d.sheet.activities.now a) (every_at (activity_keeps d.sheet.events.now) d.sheet.activities.now (kept_of (sheet_on d) d.sheet.kept).activities a no_activity h)
 
 -- what an activity hands on under a choice, by how it stands
-pub handed_so : (rule : ℕ → ℕ → ℕ) (d : Day) (z : Choice) (a lateness : ℕ) (s : Stance) (b : Bool) → s ≡ stance_at d.activities.now d.marks.now d.trial a → binding s (z a) ≡ b
-    → cond b (rule (activity_at d.activities.now a).margin lateness) 0 ≡ cond (binds (yard_of rule d) z a) (handed (yard_of rule d) a lateness) 0
+pub handed_so : (rule : ℕ → ℕ → ℕ) (d : Day) (z : Choice) (a lateness : ℕ) (s : Stance) (b : Bool) → s ≡ stance_at d.sheet.activities.now d.marks.now d.trial a → binding s (z a) ≡ b
+    → cond b (rule (activity_at d.sheet.activities.now a).margin lateness) 0 ≡ cond (binds (yard_of rule d) z a) (handed (yard_of rule d) a lateness) 0
 handed_so rule d z a lateness s b e h =
     sym (ap (λ (x : Bool). cond x (handed (yard_of rule d) a lateness) 0) (binds_by rule d z a ∙ ap (λ (x : Stance). binding x (z a)) (sym e) ∙ h) ∙ ap (λ (x : ℕ). cond b x 0) (handed_is rule d a lateness))
 
@@ -90,11 +90,11 @@ struck_kind Transfer Unmarked = refl
 struck_kind Transfer Held = refl
 struck_kind Transfer Struck = refl
 
-pub struck_by : (rule : ℕ → ℕ → ℕ) (d : Day) (a : ℕ) → struck (yard_of rule d) a ≡ off (stance_at d.activities.now d.marks.now d.trial a)
+pub struck_by : (rule : ℕ → ℕ → ℕ) (d : Day) (a : ℕ) → struck (yard_of rule d) a ≡ off (stance_at d.sheet.activities.now d.marks.now d.trial a)
 unfolding transfer struck
 struck_by rule d a =
-    struck_kind (activity_at d.activities.now a).kind (mark_on d.marks.now d.trial a)
-    ∙ ap off (stands_so (activity_at d.activities.now a).kind (get_or d.marks.now a no_mark).mark (tried d.trial a))
+    struck_kind (activity_at d.sheet.activities.now a).kind (mark_on d.marks.now d.trial a)
+    ∙ ap off (stands_so (activity_at d.sheet.activities.now a).kind (get_or d.marks.now a no_mark).mark (tried d.trial a))
 
 -- an unmarked transfer is one that the choice decides
 abbrev pub decided : Stance → Bool
@@ -110,14 +110,14 @@ unmarked_kind Transfer Unmarked = refl
 unmarked_kind Transfer Held = refl
 unmarked_kind Transfer Struck = refl
 
-pub unmarked_by : (rule : ℕ → ℕ → ℕ) (d : Day) (a : ℕ) → unmarked (yard_of rule d) a ≡ decided (stance_at d.activities.now d.marks.now d.trial a)
+pub unmarked_by : (rule : ℕ → ℕ → ℕ) (d : Day) (a : ℕ) → unmarked (yard_of rule d) a ≡ decided (stance_at d.sheet.activities.now d.marks.now d.trial a)
 unfolding transfer unmarked
 unmarked_by rule d a =
-    unmarked_kind (activity_at d.activities.now a).kind (mark_on d.marks.now d.trial a)
-    ∙ ap decided (stands_so (activity_at d.activities.now a).kind (get_or d.marks.now a no_mark).mark (tried d.trial a))
+    unmarked_kind (activity_at d.sheet.activities.now a).kind (mark_on d.marks.now d.trial a)
+    ∙ ap decided (stands_so (activity_at d.sheet.activities.now a).kind (get_or d.marks.now a no_mark).mark (tried d.trial a))
 
 -- whether an activity is live, by how it stands
-pub live_so : (rule : ℕ → ℕ → ℕ) (d : Day) (a : ℕ) (s : Stance) → s ≡ stance_at d.activities.now d.marks.now d.trial a
-    → cond (off s) false (ltb 0 (rule (activity_at d.activities.now a).margin (worst (yard_of rule d) (activity_at d.activities.now a).tail))) ≡ live (yard_of rule d) a
+pub live_so : (rule : ℕ → ℕ → ℕ) (d : Day) (a : ℕ) (s : Stance) → s ≡ stance_at d.sheet.activities.now d.marks.now d.trial a
+    → cond (off s) false (ltb 0 (rule (activity_at d.sheet.activities.now a).margin (worst (yard_of rule d) (activity_at d.sheet.activities.now a).tail))) ≡ live (yard_of rule d) a
 unfolding handed tail
-live_so rule d a s e = ap (λ (b : Bool). cond b false (ltb 0 (rule (activity_at d.activities.now a).margin (worst (yard_of rule d) (activity_at d.activities.now a).tail)))) (ap off e ∙ sym (struck_by rule d a))
+live_so rule d a s e = ap (λ (b : Bool). cond b false (ltb 0 (rule (activity_at d.sheet.activities.now a).margin (worst (yard_of rule d) (activity_at d.sheet.activities.now a).tail)))) (ap off e ∙ sym (struck_by rule d a))

@@ -1,5 +1,6 @@
 -- A lot's steps, handed on by themselves.
-use Rattle.std.proofs.Common.{◌≡◌, ℕ, zero, suc, ◌+◌, ◌-◌, ◌<◌, ◌≤◌, Bool, true, false, ◌||◌, List, [], ◌∷◌, length, get_or, drop, None, sym, refl, ap, ◌∙◌, subst, arith}
+use Rattle.std.proofs.Common.{◌≡◌, ℕ, zero, suc, ◌-◌, ◌<◌, Bool, true, ◌||◌, List, [], ◌∷◌, length, get_or, None, sym, refl, ap, ◌∙◌, subst, arith}
+use Rattle.std.specs.List.{list_any}
 use Rattle.sheet.specs.declared.records.Lot.{Lot}
 use Rattle.sheet.specs.Rules.{activity_at, stretch, lot_at, path_keeps}
 use Rattle.model.specs.Yard.{Yard, tail, head, struck, transfer}
@@ -7,19 +8,19 @@ use Rattle.model.specs.Finite.{some}
 use Rattle.model.specs.Lots.{ends, begins, finish, unstruck}
 use Rattle.model.proofs.OnSheets.{way_of}
 use Rattle.timetable.specs.declared.day.Day.{Day}
-use Rattle.timetable.specs.Days.{Ready, sheet_on, yard_of}
+use Rattle.timetable.specs.Days.{sheet_on, yard_of}
 use Rattle.timetable.specs.Parts.{LotOf, Walks, lots_on}
-use Rattle.timetable.proofs.Ways.{below_at, some_step, some_done}
+use Rattle.timetable.proofs.Ways.{below_at}
 
 -- a lot's stretch can be gone along
-pub lot_walks : (d : Day) (lot : Lot) → Ready d → LotOf d lot → (s : List ℕ) → s ≡ stretch lot d.steps.now → Walks d s
-lot_walks d lot r o s e =
-    let w = way_of (sheet_on d) r.formed o.number o.within in
-    let i : s ≡ stretch (lot_at d.lots.now o.number) d.steps.now = e ∙ ap (λ (l : Lot). stretch l d.steps.now) o.is in
+pub lot_walks : (d : Day) (lot : Lot) → LotOf d lot → (s : List ℕ) → s ≡ stretch lot d.sheet.steps.now → Walks d s
+lot_walks d lot o s e =
+    let w = way_of (sheet_on d) d.sheet.kept o.number o.within in
+    let i : s ≡ stretch (lot_at d.sheet.lots.now o.number) d.sheet.steps.now = e ∙ ap (λ (l : Lot). stretch l d.sheet.steps.now) o.is in
     let n = ap length i in
     record {
       some_steps = omega (arith, n, w.some_steps);
-      known = below_at d.activities.now None s (subst (λ (u : List ℕ). path_keeps d.activities.now None u ≡ true) (sym i) w.keeps);
+      known = below_at d.sheet.activities.now None s (subst (λ (u : List ℕ). path_keeps d.sheet.activities.now None u ≡ true) (sym i) w.keeps);
     }
 
 -- a way ends at the head of its last step
@@ -31,19 +32,15 @@ ends_last g e zero (a ∷ (b ∷ s)) n = absurd (omega arith)
 ends_last g e (suc k) (a ∷ []) n = absurd (omega arith)
 ends_last g e (suc k) (a ∷ (b ∷ s)) n = ends_last g (head g a) k (b ∷ s) (omega arith)
 
-pub finish_last : (rule : ℕ → ℕ → ℕ) (d : Day) (s : List ℕ) → Walks d s → (activity_at d.activities.now (get_or s (length s - 1) 0)).head ≡ finish (yard_of rule d) s
+pub finish_last : (rule : ℕ → ℕ → ℕ) (d : Day) (s : List ℕ) → Walks d s → (activity_at d.sheet.activities.now (get_or s (length s - 1) 0)).head ≡ finish (yard_of rule d) s
 unfolding head
 finish_last rule d s w = sym (ends_last (yard_of rule d) (begins (yard_of rule d) s) (length s - 1) s (omega (arith, w.some_steps)))
 
--- the search for a step that passes: none did yet
-pub some_on : (t : ℕ → Bool) (s : List ℕ) (k : ℕ) (x : Bool) → k < length s → t (get_or s k 0) ≡ false → some t (drop k s) ≡ x → some t (drop (k + 1) s) ≡ x
-some_on t s k x h e i = sym (some_step t s k h ∙ ap (λ (b : Bool). b || some t (drop (k + 1) s)) e) ∙ i
-
-pub some_found : (t : ℕ → Bool) (s : List ℕ) (k : ℕ) (x : Bool) → k < length s → t (get_or s k 0) ≡ true → some t (drop k s) ≡ x → true ≡ x
-some_found t s k x h e i = sym (some_step t s k h ∙ ap (λ (b : Bool). b || some t (drop (k + 1) s)) e) ∙ i
-
-pub some_none : (t : ℕ → Bool) (s : List ℕ) (k : ℕ) (x : Bool) → length s ≤ k → some t (drop k s) ≡ x → false ≡ x
-some_none t s k x h i = sym (some_done t s k h) ∙ i
+-- `any` answers whether some step passes
+pub some_any : (t : ℕ → Bool) (s : List ℕ) → list_any t s ≡ some t s
+unfolding some
+some_any t [] = refl
+some_any t (a ∷ s) = ap (λ (b : Bool). t a || b) (some_any t s)
 
 -- no rule enters a lot's way
 module _ (rule : ℕ → ℕ → ℕ) (d : Day) where

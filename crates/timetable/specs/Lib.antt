@@ -1,3 +1,4 @@
 pub mod Days
 pub mod Found
 pub mod Parts
+pub mod Hindrances

@@ -2,26 +2,44 @@
 --
 --   LotOf        a lot of the day
 --   Walks        steps to go along: one at least, and each an activity of the day's sheet
+--   knotted      steps that are a tangle; a lot is tangled where its steps are
 --   lots_on      the yard as far as the lots' ways are concerned, which no rule enters
 --   waits_by     the choice that a table of bytes says: 0 for an activity that waits
 --   missed_by    a step goes by such a table
-use Rattle.std.specs.Prelude.{◌≡◌, ℕ, ◌<◌, ◌≤◌, Bool, not, List, length, ◌==◌, slice_index}
+use Rattle.std.specs.Prelude.{◌≡◌, ℕ, ◌<◌, ◌≤◌, Bool, false, not, ◌&&◌, refl, List, length, ◌==◌, nat_lt, slice_index}
 use Rattle.sheet.specs.declared.records.Lot.{Lot}
 use Rattle.sheet.specs.Rules.{lot_at}
 use Rattle.model.specs.Yard.{Yard}
 use Rattle.model.specs.Finite.{some}
-use Rattle.model.specs.Lateness.{Choice}
+use Rattle.model.specs.Lateness.{Choice, worst}
+use Rattle.model.specs.Meeting.{live}
+use Rattle.model.specs.Lots.{path, end, finish, whole, unstruck}
+use Rattle.model.specs.Tangles.{hot, scan, tangled}
 use Rattle.timetable.specs.declared.day.Day.{Day}
 use Rattle.timetable.specs.Days.{yard_of}
 
 pub record LotOf (d : Day) (lot : Lot) : Type 0 where
   pub number : ℕ
-  pub within : number < length d.lots.now
-  pub is : lot ≡ lot_at d.lots.now number
+  pub within : number < length d.sheet.lots.now
+  pub is : lot ≡ lot_at d.sheet.lots.now number
 
 pub record Walks (d : Day) (s : List ℕ) : Type 0 where
   pub some_steps : 1 ≤ length s
-  pub known : (k : ℕ) → k < length s → slice_index s k < length d.activities.now
+  pub known : (k : ℕ) → k < length s → slice_index s k < length d.sheet.activities.now
+
+abbrev pub knotted : Yard → List ℕ → Bool
+knotted g s = unstruck g s && scan (hot g) (live g) (nat_lt 0 (worst g (finish g s))) false false false s
+
+pub tangled_by_steps : (g : Yard) (i : ℕ) → tangled g i ≡ knotted g (path g i)
+unfolding tangled
+tangled_by_steps g i = refl
+
+-- where a lot ends, and whether it is whole, is told of its steps
+pub end_by_steps : (g : Yard) (i : ℕ) → end g i ≡ finish g (path g i)
+end_by_steps g i = refl
+
+pub whole_by_steps : (g : Yard) (i : ℕ) → whole g i ≡ unstruck g (path g i)
+whole_by_steps g i = refl
 
 abbrev pub lots_on : Day → Yard
 lots_on d = yard_of (λ margin lateness. 0) d

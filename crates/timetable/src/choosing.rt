@@ -29,6 +29,7 @@ impl Choosing for AllWait {
 }
 
 /// A table with a byte for each activity: 0 where it waits, and 1 where it goes.
+// bytes and not bools: what a plan writes for its callers is a byte an activity
 #[derive(Clone, Copy)]
 pub struct GoneTable<'a> {
     pub gone: &'a [u8],

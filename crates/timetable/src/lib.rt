@@ -1,12 +1,7 @@
-//! Timetables over plain slices: the least lateness for given choices, and the worst timetable.
+//! A sheet on a day, over plain slices: the least lateness for given choices, the worst timetable, and what stands in the way of a plan.
 #![tactic(auto)]
 
 pub mod choosing;
 pub mod day;
-pub mod lateness;
-pub mod live;
-pub mod lots;
-pub mod meeting;
-pub mod missed;
-pub mod steps;
-pub mod tangles;
+pub mod forecast;
+pub mod plannable;

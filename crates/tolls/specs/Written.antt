@@ -10,23 +10,21 @@ use Rattle.tariff.specs.Prices.{Prices}
 use Rattle.model.specs.Lateness.{binds}
 use Rattle.model.specs.Lots.{finish}
 use Rattle.timetable.specs.declared.day.Day.{Day}
-use Rattle.timetable.specs.Days.{Ready}
 use Rattle.timetable.specs.Parts.{LotOf, lots_on, waits_by, missed_by}
 
 abbrev pub minutes_in : List ℕ → ℕ → ℕ
 minutes_in late e = get_or late e 0
 
 pub record Written (d : Day) (late gone : List ℕ) : Type 0 where
-  pub late_room : length d.events.now ≤ length late
-  pub gone_room : length d.activities.now ≤ length gone
-  pub short : (e : ℕ) → e < length d.events.now → get_or late e 0 ≤ 1440
-  pub tells : (a : ℕ) → a < length d.activities.now → waits_by gone a ≡ binds (lots_on d) (waits_by gone) a
+  pub late_room : length d.sheet.events.now ≤ length late
+  pub gone_room : length d.sheet.activities.now ≤ length gone
+  pub short : (e : ℕ) → e < length d.sheet.events.now → get_or late e 0 ≤ 1440
+  pub tells : (a : ℕ) → a < length d.sheet.activities.now → waits_by gone a ≡ binds (lots_on d) (waits_by gone) a
 
 abbrev pub pay_due : {A : Type 0} → Prices A → Day → List ℕ → List ℕ → Lot → A
 pay_due p d late gone lot =
-    cond (missed_by gone (stretch lot d.steps.now)) (p.miss lot.class lot.parcels d.period) (p.late lot.class lot.parcels (minutes_in late (finish (lots_on d) (stretch lot d.steps.now))))
+    cond (missed_by gone (stretch lot d.sheet.steps.now)) (p.miss lot.class lot.parcels d.sheet.period) (p.late lot.class lot.parcels (minutes_in late (finish (lots_on d) (stretch lot d.sheet.steps.now))))
 
 pub record Payable (d : Day) (late gone : List ℕ) (lot : Lot) : Type 0 where
-  pub ready : Ready d
   pub of : LotOf d lot
   pub written : Written d late gone

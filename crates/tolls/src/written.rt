@@ -1,7 +1,7 @@
 //! The toll of a choice and a lateness that stand in tables.
 ghost use Rattle.std.specs.Prelude.{◌≡◌, ℕ};
 ghost use Rattle.model.specs.Laws.{cost};
-ghost use Rattle.timetable.specs.Days.{Ready, yard_of};
+ghost use Rattle.timetable.specs.Days.{yard_of};
 ghost use Rattle.timetable.specs.Parts.{waits_by};
 ghost use Rattle.tolls.specs.Written.{Written, Payable, pay_due, minutes_in};
 
@@ -10,8 +10,7 @@ use sums::charge::Charge;
 use sums::sum::sum_charges;
 use tariff::charges::Tariff;
 use timetable::day::Day;
-use timetable::missed::is_missed;
-use timetable::steps::{finish_of, lot_steps};
+use timetable::day::steps::is_missed;
 
 /// Each lot pays for a missed connection if an activity on its way goes, and otherwise for the lateness at its end.
 #[derive(Clone, Copy)]
@@ -27,20 +26,25 @@ impl<T: Tariff> Charge<T> for AsWritten<'_> {
     ghost pays = { λ way tariff lot. pay_due (T.Tariff.prices tariff) way.day way.late.now way.gone.now lot };
 
     fn charge(&self, tariff: &T, lot: Lot) -> T::Toll {
-        let steps = lot_steps(self.day, lot);
+        let steps = self.day.steps_of(lot);
         if is_missed(self.gone, steps) {
-            tariff.miss(lot.class, lot.parcels as u32, self.day.period)
+            tariff.miss(lot.class, u32::from(lot.parcels), self.day.sheet.period)
         } else {
-            let minutes = self.late[finish_of(self.day, steps)];
-            tariff.late(lot.class, lot.parcels as u32, minutes)
+            let minutes = self.late[self.day.end_of(steps)];
+            tariff.late(lot.class, u32::from(lot.parcels), minutes)
         }
     }
 }
 
 /// What all lots pay for the choice in `gone` and the lateness in `late`.
-pub fn toll_of<'a, T: Tariff>(tariff: &T, day: Day<'a>, late: &'a [u16], gone: &'a [u8]) -> T::Toll
-    requires ready { (Ready day) × (Written day late.now gone.now) }
-    ensures { (rule : ℕ → ℕ → ℕ) → result ≡ cost (T.prices tariff.now) (yard_of rule day.entry) (waits_by gone.now) (minutes_in late.now) }
+pub fn toll_of<'a, T: Tariff>(tariff: &T, day: &Day<'a>, late: &'a [u16], gone: &'a [u8]) -> T::Toll
+    requires { Written day.now late.now gone.now }
+    ensures { (rule : ℕ → ℕ → ℕ) → result ≡ cost (T.prices tariff.now) (yard_of rule day.now) (waits_by gone.now) (minutes_in late.now) }
 {
-    sum_charges(tariff, &AsWritten { day, late, gone }, day.lots)
+    let way = AsWritten {
+        day: *day,
+        late,
+        gone,
+    };
+    sum_charges(tariff, &way, day.sheet.lots)
 }

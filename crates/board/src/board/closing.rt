@@ -12,6 +12,7 @@ impl Board<'_> {
     {
         let count = slips.len();
         let mut slips = slips;
+        // one by one: a slip cannot be let go with the list that holds it
         while let Some(slip) = slips.pop() {
             let Slip {
                 board: _,

@@ -6,7 +6,7 @@ ghost use Rattle.board.specs.Ledger.{ledger_of, opened};
 use crate::board::{Board, TrialRecord};
 use model::mark::Mark;
 use sheet::sheet::Sheet;
-use timetable::day::{MarkRecord, Trial};
+use timetable::day::MarkRecord;
 
 impl<'a> Board<'a> {
     /// A board on a sheet, under a number that no other board has which is in use or has slips out. Nothing is delayed or marked.
@@ -20,7 +20,7 @@ impl<'a> Board<'a> {
             marks: [MarkRecord {
                 mark: Mark::Unmarked,
             }; 1024],
-            trial: TrialRecord { trial: Trial::Idle },
+            trial: TrialRecord { trial: None },
         }
     }
 }

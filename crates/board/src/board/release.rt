@@ -16,10 +16,8 @@ impl Board<'_> {
         if board != self.number || at >= self.sheet.activities.len() {
             return false;
         }
-        match self.marks[at].mark {
-            Mark::Held => true,
-            Mark::Unmarked | Mark::Struck => false,
-        }
+        let mark = self.marks[at].mark;
+        mark == Mark::Held
     }
 
     /// Takes the slip and unmarks its transfer; a slip that is refused comes back.

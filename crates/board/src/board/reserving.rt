@@ -23,7 +23,7 @@ impl Board<'_> {
         if reserves.len() < self.sheet.events.len() {
             return Err(Refusal::ShortTable);
         }
-        write_reserves(rule, self.day(), reserves);
+        write_reserves(rule, &self.day(), reserves);
         Ok(())
     }
 }

@@ -1,71 +1,60 @@
 //! Trials: what a plan would cost if one transfer were struck.
-ghost use Rattle.std.specs.Prelude.{◌≡◌, ℕ, ◌≤◌, length, IfOk, IfErr};
+ghost use Rattle.std.specs.Prelude.{◌≡◌, ℕ, ◌≤◌, length, IfOk, IfErr, None};
 ghost use Rattle.std.specs.Result.{result_err};
 ghost use Rattle.sheet.specs.Sheets.{tables_of};
-ghost use Rattle.timetable.specs.declared.day.Trial.TheVariants.{Idle};
 ghost use Rattle.model.specs.Laws.{yard};
 ghost use Rattle.timetable.specs.Days.{delay_on, mark_on};
-ghost use Rattle.planner.specs.Plans.{TollOfPlan};
 ghost use Rattle.board.specs.Kept.{Timely};
+ghost use Rattle.planner.specs.Plans.{TollOfPlan};
 ghost use Rattle.board.specs.Refusals.{number_of};
 ghost use Rattle.board.specs.Ledger.{ledger_of, yard_on, step, strike};
-ghost use Rattle.board.specs.Calls.{plan_refusal, trial_room, trial_refusal};
+ghost use Rattle.board.specs.Calls.{plan_refusal, trial_refusal};
+ghost use Rattle.board.specs.Tables.{work_fits, WorkLeft, SameWork};
 
-use crate::board::planning::refusal_of;
+use crate::board::planning::day_on;
 use crate::board::{Board, TrialRecord};
 use crate::refusal::Refusal;
+use crate::tables::Work;
 use carry::rule::Carry;
 use planner::plan_toll::plan_toll;
 use sheet::sheet::Sheet;
 use tariff::charges::Tariff;
-use timetable::day::{Day, MarkRecord, Trial};
+use timetable::day::MarkRecord;
 
 /// A trial under way: the record names the transfer on trial, and is put back when the guard goes, on whatever way out.
 struct TrialGuard<'g>(&'g mut TrialRecord);
 
 impl Drop for TrialGuard<'_> {
     fn drop(self)
-        ensures { self.exit.0.now.trial ≡ Idle }
+        ensures { self.exit.0.now.trial ≡ None }
     {
-        self.0.trial = Trial::Idle;
+        self.0.trial = None;
         let TrialGuard(_) = self;
     }
 }
 
 /// What a plan would cost with these delays, marks and trial, or why it is refused.
+// field by field: of a board behind `&mut` whose day was lent on a proof does not know that it stayed
 fn toll_on<'d, R: Carry, T: Tariff>(
     rule: &R,
     tariff: &T,
     sheet: &'d Sheet<'_>,
     delays: &'d [u16; 512],
     marks: &'d [MarkRecord; 1024],
-    trial: Trial,
-    worst: &mut [u16],
-    cells: &mut [T::Toll],
+    trial: Option<u16>,
+    work: &mut Work<'_, T::Toll>,
 ) -> Result<T::Toll, Refusal>
-    requires timely { Timely sheet.now.period delays.now }
-    ensures refuses { result_err result ≡ plan_refusal (yard (tables_of sheet.now) (R.hands rule.now) (delay_on delays.now) (mark_on marks.now trial)) (trial_room (tables_of sheet.now) (length worst.old) (length cells.old)) }
+    requires { Timely sheet.now.period delays.now }
+    ensures refuses { result_err result ≡ plan_refusal (yard (tables_of sheet.now) (R.hands rule.now) (delay_on delays.now) (mark_on marks.now trial)) (work_fits (tables_of sheet.now) work.old) }
     ensures toll { IfOk result (λ toll. TollOfPlan (T.prices tariff.now) (yard (tables_of sheet.now) (R.hands rule.now) (delay_on delays.now) (mark_on marks.now trial)) toll) }
-    ensures work { IfErr result (λ why. number_of why ≤ 15 → (worst.new ≡ worst.old) × (cells.new ≡ cells.old)) }
+    ensures work { IfErr result (λ why. number_of why ≤ 15 → WorkLeft work.old work.new) }
+    ensures same { SameWork work.old work.new }
 {
-    let events = sheet.events.len();
-    if worst.len() < events || cells.len() < events {
+    if !work.has_room(sheet.events.len()) {
         return Err(Refusal::ShortTable);
     }
-    let day = Day {
-        period: sheet.period,
-        events: sheet.events,
-        activities: sheet.activities,
-        lots: sheet.lots,
-        steps: sheet.steps,
-        delays,
-        marks,
-        trial,
-    };
-    match plan_toll(rule, tariff, day, worst, cells) {
-        Ok(toll) => Ok(toll),
-        Err(hindrance) => Err(refusal_of(hindrance)),
-    }
+    let day = day_on(sheet, delays, marks, trial);
+    Ok(plan_toll(rule, tariff, day, work.worst, work.bills)?)
 }
 
 impl Board<'_> {
@@ -75,17 +64,15 @@ impl Board<'_> {
         rule: &R,
         tariff: &T,
         activity: u16,
-        worst: &mut [u16],
-        cells: &mut [T::Toll],
+        work: &mut Work<'_, T::Toll>,
     ) -> Result<T::Toll, Refusal>
-        ensures refuses { result_err result ≡ trial_refusal (ledger_of self.old) activity (yard_on (R.hands rule.now) (step (ledger_of self.old) (strike activity))) (trial_room (tables_of self.old.sheet) (length worst.old) (length cells.old)) }
+        ensures refuses { result_err result ≡ trial_refusal (ledger_of self.old) activity (yard_on (R.hands rule.now) (step (ledger_of self.old) (strike activity))) (work_fits (tables_of self.old.sheet) work.old) }
         ensures toll { IfOk result (λ toll. TollOfPlan (T.prices tariff.now) (yard_on (R.hands rule.now) (step (ledger_of self.old) (strike activity))) toll) }
         ensures after { ledger_of self.new ≡ ledger_of self.old }
-        ensures work { IfErr result (λ why. number_of why ≤ 15 → (worst.new ≡ worst.old) × (cells.new ≡ cells.old)) }
+        ensures work { IfErr result (λ why. number_of why ≤ 15 → WorkLeft work.old work.new) }
+        ensures same { SameWork work.old work.new }
     {
-        if let Err(refusal) = self.free(activity) {
-            return Err(refusal);
-        }
+        self.free(activity)?;
         let Board {
             sheet,
             delays,
@@ -93,9 +80,9 @@ impl Board<'_> {
             trial,
             ..
         } = self;
-        trial.trial = Trial::Strike(activity);
+        trial.trial = Some(activity);
         let guard = TrialGuard(trial);
         let code = guard.0.trial;
-        toll_on(rule, tariff, sheet, delays, marks, code, worst, cells)
+        toll_on(rule, tariff, sheet, delays, marks, code, work)
     }
 }

@@ -32,12 +32,6 @@ impl<'a> Sheet<'a> {
     pub fn steps_of(&self, lot: usize) -> Option<&'a [u16]>
         ensures { option_map (λ x. x.now) result ≡ steps_at (tables_of self.now) lot }
     {
-        if lot >= self.lots.len() {
-            return None;
-        }
-        let lot = self.lots[lot];
-        let first = usize::from(lot.first);
-        let steps = &self.steps[first..first + usize::from(lot.count)];
-        Some(steps)
+        self.lots.get(lot).map(|lot| lot.stretch(self.steps))
     }
 }

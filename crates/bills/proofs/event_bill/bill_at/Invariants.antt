@@ -6,6 +6,6 @@ use Rattle.bills.proofs.event_bill.bill_at.Given as goal
 
 abbrev pub invariant-loop-a : goal.invariant-loop-a
 invariant-loop-a g l =
-    let y = yard_of (g.R.Carry.hands l.rule) l.day in
+    let y = yard_of (g.R.Carry.hands l.ahead.forecast.rule.now) l.ahead.forecast.day in
     let p = g.T.Tariff.prices l.tariff in
     l.sum ≡ acts_loop y p.tolls (fares_of p y) l.e l.a

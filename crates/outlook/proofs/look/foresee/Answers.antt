@@ -13,19 +13,21 @@ note-requires g c =
     λ i h.
     omega (arith, (all_sound (tables_of s) c.args.reports.now free.reports i h).known, (few (tables_of s) s.kept).0)
 
+pub invariant_of-day : goal.invariant_of-day
+invariant_of-day g c =
+    let s = c.args.sheet.now in
+    let free = clean (tables_of s) c.args.reports.now (length c.args.late.now) (length c.args.lives.now) c.requires in
+    record {
+      delays_for_all = omega (arith, (few (tables_of s) s.kept).0, c.note.auto.delays);
+      marks_for_all = marks_enough (tables_of s) c.unmarked.result.now s.kept c.unmarked.ensures;
+      timely = λ e h. delays_short (tables_of s) c.note.new.delays c.args.reports.now free.reports c.note.ensures e;
+    }
+
 pub survey-requires : goal.survey-requires
 survey-requires g c =
     let s = c.args.sheet.now in
     let free = clean (tables_of s) c.args.reports.now (length c.args.late.now) (length c.args.lives.now) c.requires in
-    record {
-      ready = record {
-        formed = s.kept;
-        delays = omega (arith, (few (tables_of s) s.kept).0, c.note.auto.delays);
-        marks = marks_enough (tables_of s) c.unmarked.result.now s.kept c.unmarked.ensures;
-        reported = λ e h. delays_short (tables_of s) c.note.new.delays c.args.reports.now free.reports c.note.ensures e;
-      };
-      room = (free.late_room, free.live_room);
-    }
+    record { late = free.late_room; live = free.live_room }
 
 pub returns : goal.returns
 returns g c =

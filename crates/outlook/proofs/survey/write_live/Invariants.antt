@@ -5,5 +5,5 @@ use Rattle.outlook.proofs.survey.write_live.Given as goal
 
 abbrev pub invariant-loop-a : goal.invariant-loop-a
 invariant-loop-a g l =
-    ((k : ℕ) → k < l.a → get_or l.lives k false ≡ live (yard_of (g.R.Carry.hands l.rule) l.day) k)
-    × ((k : ℕ) → l.a ≤ k → get_or l.lives k false ≡ get_or l.initial.lives k false)
+    ((k : ℕ) → k < l.a → get_or l.cell-items k false ≡ live (yard_of (g.R.Carry.hands l.forecast.rule.now) l.forecast.day) k)
+    × ((k : ℕ) → l.a ≤ k → get_or l.cell-items k false ≡ get_or l.initial.cell-items k false)

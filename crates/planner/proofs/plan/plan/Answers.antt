@@ -1,34 +1,30 @@
-use Rattle.std.proofs.Common.{sym, ◌∙◌, arith}
+use Rattle.std.proofs.Common.{◌≡◌, ◌∙◌, arith}
+use Rattle.model.specs.Laws.{Clear}
 use Rattle.timetable.specs.Days.{yard_of}
-use Rattle.planner.proofs.Clears.{clear_of, written_so, plan_so}
+use Rattle.choice.specs.Chosen.{Chosen, gone_count}
+use Rattle.planner.proofs.Clears.{written_so, plan_so}
 use Rattle.planner.proofs.plan.plan.Goals as goal
-
-pub fill_bills-requires : goal.fill_bills-requires
-fill_bills-requires g c = record {
-  ready = (c.requires.ready, record { room = omega (arith, c.requires.work, c.write_worst.auto.late); holds = c.write_worst.ensures.cells });
-  clear = clear_of (yard_of (g.R.Carry.hands c.args.rule.now) c.args.day) (sym c.first_hindrance.ensures ∙ c.in_default.is);
-  room = c.requires.work.1;
-}
 
 pub toll_of-toll-requires : goal.toll_of-toll-requires
 toll_of-toll-requires g c =
-    record {
-      ready = (
-        c.requires.ready,
-        written_so (g.R.Carry.hands c.args.rule.now) c.args.day (g.T.Tariff.prices c.args.tariff.now) (g.met.R.Carry.lawful c.args.rule.now) (g.met.T.Tariff.lawful c.args.tariff.now) c.requires.ready
-            c.choose-count.new.late c.choose-count.new.gone c.choose-count.ensures.chosen (omega (arith, c.requires.room.0, c.choose-count.auto.late)) (omega (arith, c.requires.room.1, c.choose-count.auto.gone)),
-      );
-    }
-
-pub returns : goal.returns
-returns g c =
     let rule = g.R.Carry.hands c.args.rule.now in
-    record {
-      refuses = sym c.in_default.is ∙ c.first_hindrance.ensures;
-      untouched = tt;
-      planned = plan_so rule c.args.day (g.T.Tariff.prices c.args.tariff.now) (g.met.R.Carry.lawful c.args.rule.now) (g.met.T.Tariff.lawful c.args.tariff.now) c.requires.ready
-          c.choose-count.new.late c.choose-count.new.gone c.choose-count.ensures.chosen (clear_of (yard_of rule c.args.day) (sym c.first_hindrance.ensures ∙ c.in_default.is)) c.toll_of-toll.result c.choose-count.result
-          (c.toll_of-toll.ensures rule) c.choose-count.ensures.count;
-      late = c.choose-count.ensures.late;
-      gone = c.choose-count.ensures.gone;
-    }
+    let p = g.T.Tariff.prices c.args.tariff.now in
+    let a = c.in_ok-ahead.ahead in
+    let fr : a.forecast.rule.now ≡ c.args.rule.now = c.in_ok-ahead.ensures.rule ∙ c.new.ensures.rule in
+    let fd : a.forecast.day ≡ c.args.day = c.in_ok-ahead.ensures.day ∙ c.new.ensures.day in
+    let chosen : Chosen p (yard_of rule c.args.day) c.choose-count.new.late c.choose-count.new.gone = rw (c.new-priced.ensures.forecast, c.new-priced.ensures.tariff, fr, fd) at c.choose-count.ensures.chosen in
+    written_so rule c.args.day p (g.met.R.Carry.lawful c.args.rule.now) (g.met.T.Tariff.lawful c.args.tariff.now)
+    c.choose-count.new.late c.choose-count.new.gone chosen (omega (arith, c.requires.room.0, c.choose-count.auto.late)) (omega (arith, c.requires.room.1, c.choose-count.auto.gone))
+
+pub returns-clause-planned : goal.returns-clause-planned
+returns-clause-planned g c =
+    let rule = g.R.Carry.hands c.args.rule.now in
+    let p = g.T.Tariff.prices c.args.tariff.now in
+    let a = c.in_ok-ahead.ahead in
+    let fr : a.forecast.rule.now ≡ c.args.rule.now = c.in_ok-ahead.ensures.rule ∙ c.new.ensures.rule in
+    let fd : a.forecast.day ≡ c.args.day = c.in_ok-ahead.ensures.day ∙ c.new.ensures.day in
+    let clear : Clear (yard_of (g.R.Carry.hands c.args.rule.now) c.args.day) = rw (fr, fd) at a.clear in
+    let chosen : Chosen p (yard_of rule c.args.day) c.choose-count.new.late c.choose-count.new.gone = rw (c.new-priced.ensures.forecast, c.new-priced.ensures.tariff, fr, fd) at c.choose-count.ensures.chosen in
+    let count : c.choose-count.result ≡ gone_count (yard_of rule c.args.day) c.choose-count.new.gone = rw (c.new-priced.ensures.forecast, fr, fd) at c.choose-count.ensures.count in
+    plan_so rule c.args.day p (g.met.R.Carry.lawful c.args.rule.now) (g.met.T.Tariff.lawful c.args.tariff.now)
+    c.choose-count.new.late c.choose-count.new.gone chosen clear c.toll_of-toll.result c.choose-count.result (c.toll_of-toll.ensures rule) count

@@ -1,31 +1,30 @@
-use Rattle.std.proofs.Common.{sym, ◌∙◌, arith}
+use Rattle.std.proofs.Common.{◌≡◌, ◌∙◌}
+use Rattle.std.proofs.Math.Logic.{∥∥₁_elim, ∥∥₁_map}
+use base.Stored.{Coded-set}
+use Rattle.model.specs.Laws.{Clear}
 use Rattle.timetable.specs.Days.{yard_of}
-use Rattle.planner.proofs.Clears.{clear_of, toll_so}
+use Rattle.bills.specs.Columns.{Billed}
+use Rattle.owed.specs.Owed.{by_bills}
+use Rattle.planner.proofs.Clears.{toll_so}
 use Rattle.planner.proofs.plan_toll.plan_toll.Goals as goal
 
-pub fill_bills-requires : goal.fill_bills-requires
-fill_bills-requires g c = record {
-  ready = (c.requires.ready, record { room = omega (arith, c.requires.work, c.write_worst.auto.late); holds = c.write_worst.ensures.cells });
-  clear = clear_of (yard_of (g.R.Carry.hands c.args.rule.now) c.args.day) (sym c.first_hindrance.ensures ∙ c.in_default.is);
-  room = c.requires.work.1;
-}
-
 pub toll_by_bills-requires : goal.toll_by_bills-requires
-toll_by_bills-requires g c = record {
-  ready = c.requires.ready;
-  billed = record {
-    rule = g.R.Carry.hands c.args.rule.now;
-    lawful = g.met.R.Carry.lawful c.args.rule.now;
-    clear = clear_of (yard_of (g.R.Carry.hands c.args.rule.now) c.args.day) (sym c.first_hindrance.ensures ∙ c.in_default.is);
-    billed = c.fill_bills.ensures.billed;
-  };
-}
+toll_by_bills-requires g c =
+    let a = c.in_ok-ahead.ahead in
+    let fr : a.forecast.rule.now ≡ c.args.rule.now = c.in_ok-ahead.ensures.rule ∙ c.new.ensures.rule in
+    let fd : a.forecast.day ≡ c.args.day = c.in_ok-ahead.ensures.day ∙ c.new.ensures.day in
+    let clear : Clear (yard_of (g.R.Carry.hands c.args.rule.now) c.args.day) = rw (fr, fd) at a.clear in
+    let billed : ∥ Billed (g.T.Tariff.prices c.args.tariff.now) (g.R.Carry.hands c.args.rule.now) c.args.day c.new-priced.result.bills.now ∥₁ = rw (c.new-priced.ensures.forecast, c.new-priced.ensures.tariff, fr, fd) at c.new-priced.result.billed in
+    ∥∥₁_map billed (λ b. record { rule = g.R.Carry.hands c.args.rule.now; lawful = g.met.R.Carry.lawful c.args.rule.now; clear = clear; billed = b })
 
-pub returns : goal.returns
-returns g c =
+pub returns-clause-toll : goal.returns-clause-toll
+returns-clause-toll g c =
     let rule = g.R.Carry.hands c.args.rule.now in
-    record {
-      refuses = sym c.in_default.is ∙ c.first_hindrance.ensures;
-      toll = toll_so rule c.args.day (g.T.Tariff.prices c.args.tariff.now) (g.met.R.Carry.lawful c.args.rule.now) (g.met.T.Tariff.lawful c.args.tariff.now) c.requires.ready
-          (clear_of (yard_of rule c.args.day) (sym c.first_hindrance.ensures ∙ c.in_default.is)) c.toll_by_bills.result (c.toll_by_bills.ensures rule c.fill_bills.ensures.billed);
-    }
+    let p = g.T.Tariff.prices c.args.tariff.now in
+    let a = c.in_ok-ahead.ahead in
+    let fr : a.forecast.rule.now ≡ c.args.rule.now = c.in_ok-ahead.ensures.rule ∙ c.new.ensures.rule in
+    let fd : a.forecast.day ≡ c.args.day = c.in_ok-ahead.ensures.day ∙ c.new.ensures.day in
+    let clear : Clear (yard_of (g.R.Carry.hands c.args.rule.now) c.args.day) = rw (fr, fd) at a.clear in
+    let billed : ∥ Billed p rule c.args.day c.new-priced.result.bills.now ∥₁ = rw (c.new-priced.ensures.forecast, c.new-priced.ensures.tariff, fr, fd) at c.new-priced.result.billed in
+    let toll : c.toll_by_bills.result ≡ by_bills p (yard_of rule c.args.day) = ∥∥₁_elim billed (Coded-set g.row.T-Toll.coded _ _) (λ b. c.toll_by_bills.ensures rule b) in
+    toll_so rule c.args.day p (g.met.R.Carry.lawful c.args.rule.now) (g.met.T.Tariff.lawful c.args.tariff.now) clear c.toll_by_bills.result toll

@@ -7,4 +7,5 @@ use Rattle.reserves.proofs.reserve.reserve_at.Given as goal
 
 abbrev pub invariant-loop-a : goal.invariant-loop-a
 invariant-loop-a g l =
-    l.least ≡ low l.a (leaves_over (yard_of (g.R.Carry.hands l.rule) l.day) l.e) (tolerance (yard_of (g.R.Carry.hands l.rule) l.day) l.e)
+    let y = yard_of (g.R.Carry.hands l.rule) l.day in
+    l.least ≡ low l.a (leaves_over y l.e) (tolerance y l.e)

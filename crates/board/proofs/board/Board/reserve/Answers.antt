@@ -9,7 +9,7 @@ use Rattle.board.proofs.board.Board.reserve.Goals as goal
 pub write_reserves-requires : goal.write_reserves-requires
 write_reserves-requires g c =
     let e = ap (λ (x : Yard). length x.sheet.events) (c.day.ensures.yard (g.R.Carry.hands c.args.rule.now)) in
-    record { ready = c.day.ensures.ready; room = omega (arith, e, c.if-reserves-self.false) }
+    omega (arith, e, c.if-reserves-self.false)
 
 pub returns : goal.returns
 unfolding event_count

@@ -1,23 +1,16 @@
-use Rattle.std.proofs.Common.{◌+◌, ◌≤◌, length, arith, rules}
+use Rattle.std.proofs.Common.{arith, sym, subst}
+use Rattle.std.proofs.iter.Serving.{serving}
+use Rattle.sheet.specs.Rules.{Within}
 use Rattle.sheet.specs.Sheets.{tables_of}
-use Rattle.sheet.specs.Rules.{no_lot}
 use Rattle.sheet.proofs.Stretches.{kept_of, within_steps}
 use Rattle.sheet.proofs.sheet.Sheet.steps_of.Goals as goal
-use Rattle.sheet.proofs.sheet.Sheet.steps_of.Goals.{After-from}
 
--- the lot's stretch lies within the step table
-fits : (c : After-from) → c.from-first.result + c.from.result ≤ length c.args.self.now.steps.now
-fits c =
+-- a lot of the sheet has its stretch in the step table
+pub map-requires : goal.map-requires
+map-requires c = λ x some.
     let s = c.args.self.now in
+    let found = rw some at c.get.ensures.lookup in
     let k = kept_of (tables_of s) s.kept in
-    let w = within_steps s.activities.now 0 s.lots.now s.steps.now k.lots c.args.lot no_lot c.if-lot-self.false in
-    omega (arith, w, c.from-first.ensures, c.from.ensures)
-
-pub overflow_add-steps : goal.overflow_add-steps
-overflow_add-steps c = let f = fits c in search rules
-
-pub offset_bounds-self-first : goal.offset_bounds-self-first
-offset_bounds-self-first c = let f = fits c in search rules
-
-pub slice_bounds-steps-end : goal.slice_bounds-steps-end
-slice_bounds-steps-end c = let f = fits c in search rules
+    let within = within_steps s.activities.now 0 s.lots.now s.steps.now k.lots c.args.lot x.now found.3.0 in
+    let own : Within s.steps.now x.now = subst (Within s.steps.now) (sym found.1) (omega (arith, within)) in
+    grind serving

@@ -1,6 +1,0 @@
-use Rattle.std.proofs.Common.{◌≡◌}
-use Rattle.console.proofs.console.ConsoleKeeperUnit.next.Given as goal
-
--- no call is performed while lines are read
-abbrev pub invariant-loop : goal.invariant-loop
-invariant-loop g l = l.self.past.items ≡ l.initial.self.past.items

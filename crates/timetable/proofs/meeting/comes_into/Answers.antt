@@ -1,6 +1,0 @@
-use Rattle.std.proofs.Common.{sym, ◌∙◌}
-use Rattle.timetable.proofs.Sources.{into_live}
-use Rattle.timetable.proofs.meeting.comes_into.Goals as goal
-
-pub returns-then-is_live : goal.returns-then-is_live
-returns-then-is_live g c = into_live (g.R.Carry.hands c.args.rule.now) c.args.day c.args.e c.args.a c.from-head.result (sym c.is_live.ensures ∙ c.if-is_live.true) c.from-head.ensures
