@@ -54,6 +54,7 @@ fn foresee<R: Carry>(
 
 /// Looks ahead of the reported delays, with no transfer marked: writes the worst timetable, a cell an event, and which
 /// activities are live, a cell an activity, and answers whether the delays can be planned for.
+// over plain slices, as plans are: what a refusal leaves, and the cells past the sheet, are promised of each table
 pub fn look_ahead<R: Carry>(
     rule: &R,
     sheet: &Sheet,
