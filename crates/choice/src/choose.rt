@@ -12,6 +12,7 @@ use timetable::choosing::GoneTable;
 
 /// Writes the choice by bills, a byte an activity, and its least lateness, a cell an event, and answers how many unmarked transfers go.
 /// Further cells keep their contents.
+// over plain slices, as a plan is
 pub fn choose<R: Carry, T: Tariff>(
     priced: &Priced<'_, R, T>,
     late: &mut [u16],

@@ -37,6 +37,7 @@ impl<T: Tariff> Charge<T> for AsWritten<'_> {
 }
 
 /// What all lots pay for the choice in `gone` and the lateness in `late`.
+// over plain slices, as a plan is
 pub fn toll_of<'a, T: Tariff>(tariff: &T, day: &Day<'a>, late: &'a [u16], gone: &'a [u8]) -> T::Toll
     requires { Written day.now late.now gone.now }
     ensures { (rule : ℕ → ℕ → ℕ) → result ≡ cost (T.prices tariff.now) (yard_of rule day.now) (waits_by gone.now) (minutes_in late.now) }

@@ -16,6 +16,7 @@ impl Board<'_> {
         if board != self.number || at >= self.sheet.activities.len() {
             return false;
         }
+        // by itself and not behind `&&`: what a cell holds has to be copied out before it is compared
         let mark = self.marks[at].mark;
         mark == Mark::Held
     }

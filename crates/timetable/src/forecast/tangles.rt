@@ -48,6 +48,7 @@ impl<R: Carry> Forecast<'_, R> {
         requires { Walks self.now.day steps.now }
         ensures { result ≡ knotted (yard_of (R.hands self.now.rule.now) self.now.day) steps.now }
     {
+        // written out: of a derived `Default` the scan's beginning was not found to follow
         let mut passed = Passed {
             hot: false,
             gap: false,
