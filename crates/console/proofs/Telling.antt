@@ -9,7 +9,7 @@ use Rattle.console.specs.Hands.{transfer_word, transfers_words, slips_line}
 abbrev pub no_slip : Slip
 no_slip = record { board = 0; activity = 0 }
 
-transfers_next : (slips : List Slip) (i n : ℕ) → n ≡ (get_or slips i no_slip).activity → i < length slips → transfers_words (take i slips) ++ number_word n ≡ transfers_words (take (i + 1) slips)
+pub transfers_next : (slips : List Slip) (i n : ℕ) → n ≡ (get_or slips i no_slip).activity → i < length slips → transfers_words (take i slips) ++ number_word n ≡ transfers_words (take (i + 1) slips)
 transfers_next slips i n e h =
     ap (λ (m : ℕ). transfers_words (take i slips) ++ number_word m) e
     ∙ flat_map_more transfer_word [] (take i slips) (get_or slips i no_slip)

@@ -43,9 +43,10 @@ pub(crate) fn heard<'s, X>(
         }
         Answer::Held(a, Err(refusal)) => (Noted::Hold(a), Outcome::Refused(refusal)),
         Answer::Released(board, a, Ok(())) => (Noted::Release((board, a)), Outcome::Done),
-        Answer::Released(board, a, Err(NotReleased { slip })) => {
+        Answer::Released(_, _, Err(NotReleased { slip })) => {
+            let noted = Noted::Release((slip.board(), slip.activity()));
             slips.push_reserved(slip);
-            (Noted::Release((board, a)), Outcome::NotReleased)
+            (noted, Outcome::NotReleased)
         }
         Answer::Struck(a, answer) => (Noted::Strike(a), done(answer)),
         Answer::Cleared(a, answer) => (Noted::Clear(a), done(answer)),

@@ -2,10 +2,10 @@
 --
 --   call_by     the call that an order asks for, by the two numbers of what a release is given
 --   call_of     the call that an order with slips asks for
---   answered    the call that an answer answers
+--   answered    the call that an answer answers; a release that was refused is told by the slip that comes back
 --   wrote_plan, wrote_reserves    whether the tables of a plan, or of reserves, were written
 --   Answers     an answer is the one that the ledger gives, with what was written into the tables
-use Rattle.std.specs.Prelude.{◌≡◌, ℕ, Bool, false, List, length, is_ok, IfOk, OnOk}
+use Rattle.std.specs.Prelude.{◌≡◌, ℕ, Bool, false, List, length, Ok, Err, is_ok, IfOk, OnOk}
 use Rattle.std.specs.Result.{result_err}
 use Rattle.tariff.specs.Prices.{Prices}
 use Rattle.planner.specs.Plans.{PlanIn, TollOfPlan}
@@ -34,7 +34,8 @@ call_of o = call_by (λ (s : Slip). s.board) (λ (s : Slip). s.activity) o
 abbrev pub answered : {X : Type 0} → Answer X → Call
 answered (Reported event minutes r) = report event minutes
 answered (Held a r) = hold a
-answered (Released board a r) = release board a
+answered (Released board a (Ok x)) = release board a
+answered (Released board a (Err n)) = release n.slip.board n.slip.activity
 answered (Struck a r) = strike a
 answered (Cleared a r) = clear a
 answered (Tried a r) = trial a

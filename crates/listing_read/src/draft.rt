@@ -1,9 +1,9 @@
 //! A draft of a sheet: its numbers, section by section, which need keep no rule as yet.
-ghost use Rattle.std.specs.Prelude.{◌≡◌, ◌++◌, IfOk, OnOk};
+ghost use Rattle.std.specs.Prelude.{◌≡◌, [], ◌∷◌, ◌++◌, IfOk, OnOk};
 ghost use Rattle.listing_read.specs.Numbers.{Added, Empty, lot_numbers, numbers_bytes, part_bytes, draft_bytes};
 
 use crate::fault::DraftFault;
-use sheet::records::Class;
+use sheet::records::{Class, Numbered};
 use std::alloc::{AllocError, Global};
 
 /// How many records a section has, and the numbers of all of them in a row.
@@ -32,11 +32,18 @@ impl Section {
         }
     }
 
-    /// Adds one record, of these numbers.
-    pub(crate) fn add(&mut self, numbers: &[u16]) -> Result<(), DraftFault>
-        ensures { OnOk result (Added self.old numbers.now self.new) }
+    /// Adds a period.
+    pub(crate) fn add_period(&mut self, period: u16) -> Result<(), DraftFault>
+        ensures { OnOk result (Added self.old (period ∷ []) self.new) }
     {
-        self.add_both(numbers, &[])
+        self.add_both(&[period], &[])
+    }
+
+    /// Adds an event or an activity, by its numbers.
+    pub(crate) fn add<R: Numbered>(&mut self, item: R) -> Result<(), DraftFault>
+        ensures { OnOk result (Added self.old (R.numbers item) self.new) }
+    {
+        self.add_both(&item.numbers(), &[])
     }
 
     /// Adds a lot with its steps.

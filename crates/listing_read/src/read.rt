@@ -5,7 +5,6 @@ ghost use Rattle.listing_read.specs.declared.fault.Wrong.TheVariants.{NoText};
 use crate::draft::Draft;
 use crate::fault::{ListingFault, Wrong};
 use crate::fields::{read_activity, read_class, read_event, read_number, read_period, read_steps};
-use sheet::records::Numbered;
 use std::alloc::Global;
 
 /// The draft that a listing's lines make.
@@ -57,13 +56,12 @@ impl Draft {
         rest: &[&'a str],
     ) -> Result<(), Wrong<'a>> {
         match first {
-            "period" => self.terms.add(&[read_period(rest)?])?,
-            "event" => self.events.add(&read_event(rest)?.numbers())?,
+            "period" => self.terms.add_period(read_period(rest)?)?,
+            "event" => self.events.add(read_event(rest)?)?,
             "lot" => self.read_lot(heap, rest)?,
             _ => {
                 let kind = first.parse().map_err(|_| Wrong::NoLine(first))?;
-                let activity = read_activity(kind, rest)?;
-                self.activities.add(&activity.numbers())?;
+                self.activities.add(read_activity(kind, rest)?)?;
             }
         }
         Ok(())

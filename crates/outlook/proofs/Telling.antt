@@ -3,11 +3,11 @@ use Rattle.std.proofs.Common.{◌≡◌, ℕ, ◌+◌, Bool, true, false, List, 
 use Rattle.std.proofs.lemmas.Bool.{cond-true, cond-false}
 use Rattle.outlook.specs.Lines.{number_word, picked_words}
 
-picked_more : (cells : List Bool) (i : ℕ) → get_or cells i false ≡ true → picked_words cells i ++ number_word i ≡ picked_words cells (i + 1)
+pub picked_more : (cells : List Bool) (i : ℕ) → get_or cells i false ≡ true → picked_words cells i ++ number_word i ≡ picked_words cells (i + 1)
 unfolding picked_words
 picked_more cells i h = sym (ap (picked_words cells) (add-one i) ∙ ap (λ (l : List ℕ). picked_words cells i ++ l) (cond-true (get_or cells i false) (number_word i) [] h))
 
-picked_skip : (cells : List Bool) (i : ℕ) → get_or cells i false ≡ false → picked_words cells i ≡ picked_words cells (i + 1)
+pub picked_skip : (cells : List Bool) (i : ℕ) → get_or cells i false ≡ false → picked_words cells i ≡ picked_words cells (i + 1)
 unfolding picked_words
 picked_skip cells i h = sym (ap (picked_words cells) (add-one i) ∙ ap (λ (l : List ℕ). picked_words cells i ++ l) (cond-false (get_or cells i false) (number_word i) [] h) ∙ append-nil (picked_words cells i))
 

@@ -46,7 +46,7 @@ module _ (rule : ℕ → ℕ → ℕ) (d : Day) (lawful : LawfulRule rule) where
   reserve_so e = sym (reserve_is (yard_of rule d) (sound (sheet_on d) rule (delay_on d.delays.now) (mark_on d.marks.now d.trial) d.sheet.kept lawful) e)
 
   -- no reserve is longer than the period
-  reserve_short : (e : ℕ) → e < length d.sheet.events.now → reserve (yard_of rule d) e ≤ 1440
+  pub reserve_short : (e : ℕ) → e < length d.sheet.events.now → reserve (yard_of rule d) e ≤ 1440
   unfolding tolerance
   reserve_short e h =
       let so = sound (sheet_on d) rule (delay_on d.delays.now) (mark_on d.marks.now d.trial) d.sheet.kept lawful in

@@ -24,9 +24,10 @@ fn handed_row<G: Growing>(margin: u16) -> Row {
 
 /// The greatest lateness that hands on at most each allowance: first by what is handed on exactly, then of all below.
 fn greatest_row<G: Growing>(margin: u16) -> Row {
+    let row = handed_row::<G>(margin);
     let mut greatest = [0; MINUTES];
-    for (lateness, handed) in (0..=LONGEST).zip(handed_row::<G>(margin)) {
-        if let Some(cell) = greatest.get_mut(usize::from(handed)) {
+    for (lateness, handed) in (0..=LONGEST).zip(row.iter()) {
+        if let Some(cell) = greatest.get_mut(usize::from(*handed)) {
             *cell = lateness;
         }
     }

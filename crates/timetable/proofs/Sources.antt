@@ -13,10 +13,22 @@ use Rattle.std.specs.Option.{MatchOption}
 use Rattle.std.specs.List.{range_with_len, filter, count_by, AllWithin, HoldsAt}
 use Rattle.std.proofs.lemmas.List.Sums.{length-filter, sum_by-append}
 
--- a live activity comes into its head
-pub into_live : (rule : ℕ → ℕ → ℕ) (d : Day) (e a h : ℕ) → live (yard_of rule d) a ≡ true → h ≡ (activity_at d.sheet.activities.now a).head → eqb h e ≡ into (yard_of rule d) e a
+and_true : (b : Bool) → b ≡ b && true
+and_true true = refl
+and_true false = refl
+
+and_false : (b : Bool) → false ≡ b && false
+and_false true = refl
+and_false false = refl
+
+-- an activity with this head comes into it where it is live, and into no other event
+pub into_head : (rule : ℕ → ℕ → ℕ) (d : Day) (e a h : ℕ) → h ≡ (activity_at d.sheet.activities.now a).head → eqb h e ≡ true → live (yard_of rule d) a ≡ into (yard_of rule d) e a
 unfolding head
-into_live rule d e a h l k = ap (λ (j : ℕ). eqb j e) k ∙ sym (ap (λ (b : Bool). b && eqb (activity_at d.sheet.activities.now a).head e) l)
+into_head rule d e a h k t = and_true (live (yard_of rule d) a) ∙ ap (λ (b : Bool). live (yard_of rule d) a && b) (sym t ∙ ap (λ (j : ℕ). eqb j e) k)
+
+pub into_elsewhere : (rule : ℕ → ℕ → ℕ) (d : Day) (e a h : ℕ) → h ≡ (activity_at d.sheet.activities.now a).head → eqb h e ≡ false → eqb h e ≡ into (yard_of rule d) e a
+unfolding head
+into_elsewhere rule d e a h k f = f ∙ and_false (live (yard_of rule d) a) ∙ ap (λ (b : Bool). live (yard_of rule d) a && b) (sym f ∙ ap (λ (j : ℕ). eqb j e) k)
 
 -- the activities counted, from the first to the last
 range_more : (a n : ℕ) → range_with_len a (suc n) ≡ range_with_len a n ++ ((a + n) ∷ [])

@@ -8,7 +8,7 @@
 --   missed_by    a step goes by such a table
 use Rattle.std.specs.Prelude.{◌≡◌, ℕ, ◌<◌, ◌≤◌, Bool, false, not, ◌&&◌, refl, List, length, ◌==◌, nat_lt, slice_index}
 use Rattle.sheet.specs.declared.records.Lot.{Lot}
-use Rattle.sheet.specs.Rules.{lot_at}
+use Rattle.sheet.specs.Rules.{lot_at, stretch}
 use Rattle.model.specs.Yard.{Yard}
 use Rattle.model.specs.Finite.{some}
 use Rattle.model.specs.Lateness.{Choice, worst}
@@ -33,6 +33,11 @@ knotted g s = unstruck g s && scan (hot g) (live g) (nat_lt 0 (worst g (finish g
 pub tangled_by_steps : (g : Yard) (i : ℕ) → tangled g i ≡ knotted g (path g i)
 unfolding tangled
 tangled_by_steps g i = refl
+
+-- a lot's way is its own stretch of the step table, which is what `Day::steps_of` hands on
+pub path_by_steps : (g : Yard) (i : ℕ) → path g i ≡ stretch (lot_at g.sheet.lots i) g.sheet.steps
+unfolding path
+path_by_steps g i = refl
 
 -- where a lot ends, and whether it is whole, is told of its steps
 pub end_by_steps : (g : Yard) (i : ℕ) → end g i ≡ finish g (path g i)

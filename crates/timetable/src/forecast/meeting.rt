@@ -13,7 +13,8 @@ impl<R: Carry> Forecast<'_, R> {
         requires { a < length self.now.day.sheet.activities.now }
         ensures { result ≡ into (yard_of (R.hands self.now.rule.now) self.now.day) e a }
     {
-        self.is_live(a) && usize::from(self.day.sheet.activities[a].head) == e
+        // the head first: it is there to be read, and most activities lead elsewhere
+        usize::from(self.day.sheet.activities[a].head) == e && self.is_live(a)
     }
 
     /// How many sources event `e` has: its live incoming activities, and its own delay if it has one.
